@@ -13,8 +13,10 @@ quotients, and `dpoly_intervals.py` has the intervals.
 What it does not do: it is not proved. It is slower than `dpoly-check` and holds the certificate in memory. Where an assertion
 exceeds one of the limits Nodes, Atoms and Forms and has another fault of its phase besides, it may name the other one. It does
 not know the fault `TooLong` of a certificate, and `-` does not stand for standard input."""
+import os
 import re
 import sys
+import time
 from copy import copy
 from fractions import Fraction
 from math import inf
@@ -52,24 +54,34 @@ def kept_range(kind, loosening, mark=True):
 
 
 def narrowed(terms, term, kept, space, memo):
-    """A space narrowed by an atom's term and the range that it keeps; None if it is empty."""
-    enclosure(terms, term, space, memo)
-    left, space = {it: memo[it] for it in terms.below(term)}, list(space)
-    left[term] = meet(left[term], kept)
+    """A space narrowed by an atom's term and the range that it keeps; None if it is empty. A subterm whose enclosure is not narrowed
+    leaves to those below it what they have, so it is passed over."""
+    first = meet(enclosure(terms, term, space, memo), kept)
+    if first is None or first == memo[term]:
+        return space if first else None
+    left, found = {term: first}, list(space)
     for it in reversed(terms.below(term)):
-        n, (kind, *parts) = left[it], terms.parts[it]
+        n = left.get(it)
         if n is None:
-            return None
+            continue
+        kind, *parts = terms.parts[it]
         if kind == 'variable':
-            space[parts[0]] = n
-        elif kind == 'minus':
-            left[parts[0]] = meet(left[parts[0]], minus(n))
-        elif kind == 'square':
-            left[parts[0]] = meet(left[parts[0]], root(n, memo[parts[0]]))
-        elif kind != 'constant':
-            for s, o in (parts, parts[::-1]):
-                left[s] = meet(left[s], less(n, memo[o]) if kind == 'plus' else factor(n, memo[o]))
-    return tuple(space)
+            found[parts[0]] = n
+            continue
+        for number, s in enumerate(parts) if kind != 'constant' else ():
+            before = left.get(s) or memo[s]
+            if kind == 'minus':
+                after = meet(before, minus(n))
+            elif kind == 'square':
+                after = meet(before, root(n, memo[s]))
+            else:
+                other = memo[parts[1 - number]]
+                after = meet(before, less(n, other) if kind == 'plus' else factor(n, other))
+            if after is None:
+                return None
+            if after != before:
+                left[s] = after
+    return tuple(found)
 
 
 def expansion(terms, pairs, space, memo):
@@ -161,19 +173,14 @@ def combined(terms, pairs, space, memo):
 
 # ---------------------------------------------------------------- The cover
 class State:
-    """A space with marks, and the enclosures that are known over it. The space has an interval for each Real axis and a tuple
-    of truth values for each Bool axis. The marks are True for yes and False for no."""
-    def __init__(self, space, marks, memo=None):
-        self.space, self.marks, self.memo = space, marks, {} if memo is None else memo
-
-    def over(self, space):
-        return State(space, self.marks, self.memo if space == self.space else None)
-
-    def on(self, axis, domain):
-        return self.over((*self.space[:axis], domain, *self.space[axis + 1 :]))
+    """A space with marks, and what is known over it: the enclosures of subterms, and of atoms whether they meet their range at
+    margin. The space has an interval for each Real axis and a tuple of truth values for each Bool axis. The marks are True for yes
+    and False for no."""
+    def __init__(self, space, marks, memo=None, near=None):
+        self.space, self.marks, self.memo, self.near = space, marks, {} if memo is None else memo, {} if near is None else near
 
     def marked(self, atom, mark):
-        return State(self.space, {**self.marks, atom: mark}, self.memo)
+        return State(self.space, {**self.marks, atom: mark}, self.memo, self.near)
 
     def covers(self, state):
         """Whether a lemma, which is this state, covers another state."""
@@ -181,6 +188,7 @@ class State:
                 all(set(b) <= set(a) if isinstance(a[0], bool) else within(b, a) for a, b in zip(self.space, state.space)))
 
 
+MOST_KNOWN = 4000000  # subterms, of all states that wait, whose enclosures are kept
 DOMAINS = {'false': (False,), 'true': (True,), 'both': (False, True)}
 ATOM_RULES = set('pull unit ban void push voidno comb voidcomb case stuck'.split())
 AXIS_RULES = {'empty', 'cut', 'flip'}
@@ -194,6 +202,25 @@ class Cover:
         self.problem, self.version, self.margin, self.delta, self.lower = problem, version, margin, delta, lower
         self.lemmas, self.first = list(kept), len(kept)
         self.axes, self.atoms, self.declared = problem.names.axes, problem.atoms, problem.declared
+        self.axes_of = []  # of each subterm the axes in it, a bit for each
+        for kind, *parts in problem.terms.parts:
+            bits = 1 << parts[0] if kind == 'variable' else 0
+            for it in parts if kind not in ('variable', 'constant') else ():
+                bits |= self.axes_of[it]
+            self.axes_of.append(bits)
+
+    def over(self, state, space):
+        """The state with another space: what is known of subterms and atoms without the axes that changed stays known."""
+        changed = sum(1 << axis for axis, (a, b) in enumerate(zip(state.space, space)) if a is not b and a != b)
+        if not changed:
+            return state
+        axes_of, atoms = self.axes_of, self.atoms
+        memo = {it: value for it, value in state.memo.items() if not axes_of[it] & changed}
+        near = {it: value for it, value in state.near.items() if not axes_of[atoms[it][0]] & changed}
+        return State(space, state.marks, memo, near)
+
+    def on(self, state, axis, domain):
+        return self.over(state, (*state.space[:axis], domain, *state.space[axis + 1 :]))
 
     def value(self, atom, state):
         return enclosure(self.problem.terms, self.atoms[atom][0], state.space, state.memo)
@@ -206,7 +233,12 @@ class Cover:
 
     def meets(self, atom, state):
         """Whether an atom is not marked no and its enclosure meets its range at margin."""
-        return state.marks.get(atom) is not False and meet(self.value(atom, state), self.kept(atom, self.margin)) is not None
+        if state.marks.get(atom) is False:
+            return False
+        found = state.near.get(atom)
+        if found is None:
+            found = state.near[atom] = meet(self.value(atom, state), self.kept(atom, self.margin)) is not None
+        return found
 
     def lies(self, atom, state):
         """Whether an atom's enclosure lies within its range at delta."""
@@ -215,9 +247,12 @@ class Cover:
     def form(self, atom, domain):
         """Whether the form of the script is true, where `atom` says which atoms count as true, `domain` which Bool values."""
         values = []
+        value_of = values.__getitem__
         for kind, *parts in self.problem.forms:
-            if kind in ('all', 'any'):
-                values.append((all if kind == 'all' else any)(values[it] for it in parts[0]))
+            if kind == 'all':
+                values.append(all(map(value_of, parts[0])))
+            elif kind == 'any':
+                values.append(any(map(value_of, parts[0])))
             else:
                 values.append(kind == 'true' or kind == 'atom' and atom(parts[0]) or kind == 'bool' and domain(*parts))
         return values[-1]
@@ -239,23 +274,22 @@ class Cover:
         """The states that a line leaves of a state, or None if its condition fails; `main` is true in the main tree."""
         first, second = [*numbers[:2], None, None][:2]
         mark, domain = state.marks.get(first), state.space[first] if word in AXIS_RULES else None
-        holds, fails = state.marked(first, True), state.marked(first, False)
         if word in ('pull', 'void', 'push', 'voidno', 'comb', 'voidcomb'):
             return self.after_narrowing(word, numbers, state)
         if word == 'unit':
-            return [holds] if mark is None and not self.may(fails) else None
+            return [state.marked(first, True)] if mark is None and not self.may(state.marked(first, False)) else None
         if word == 'ban':
-            return [fails] if mark is None and self.cites(second, holds) else None
+            return [state.marked(first, False)] if mark is None and self.cites(second, state.marked(first, True)) else None
         if word == 'case':
-            return [holds, fails] if mark is None else None
+            return [state.marked(first, True), state.marked(first, False)] if mark is None else None
         if word == 'false':
             return [] if not self.may(state) else None
         if word == 'by':
             return [] if self.cites(first, state) else None
         if word == 'cut' and first in self.declared and domain[0] < second < domain[1]:
-            return [state.on(first, (domain[0], second)), state.on(first, (second, domain[1]))]
+            return [self.on(state, first, (domain[0], second)), self.on(state, first, (second, domain[1]))]
         if word == 'flip' and domain == (False, True) and first not in self.declared:
-            return [state.on(first, (False,)), state.on(first, (True,))]
+            return [self.on(state, first, (False,)), self.on(state, first, (True,))]
         if word == 'over':
             return [] if main and self.version == 4 and self.goal(state.space, state.memo)[0] >= self.lower else None
         if word == 'open' or word == 'stuck' and self.meets(first, state) and not self.lies(first, state):
@@ -279,8 +313,8 @@ class Cover:
         else:
             space = narrowed(self.problem.terms, pairs[0][0], pairs[0][2], state.space, state.memo)
         if word in ('void', 'voidno', 'voidcomb'):
-            return None if space else []
-        return [state.over(space)] if space else None
+            return [] if space is None else None
+        return None if space is None else [self.over(state, space)]
 
     def read_tree(self, lines, state, main=False):
         """Reads the tree of a state; the number of its open and stuck states."""
@@ -302,6 +336,8 @@ class Cover:
                 raise CertificateFault('RuleFails', word)
             count += word in ('open', 'stuck')
             waiting.extend(reversed(left))
+            if len(left) == 2 and len(waiting) * len(self.axes_of) > MOST_KNOWN:
+                left[1].memo, left[1].near = {}, {}
         return count
 
     def read_lemma(self, lines, number):
@@ -378,9 +414,10 @@ def value_of(word, kind):
 
 
 class Lines:
-    """The lines of a certificate, one after the other; `number` is that of the last one taken."""
-    def __init__(self, certificate):
-        self.lines, self.number = certificate.split(b'\n'), 0
+    """The lines of a certificate, one after the other; `number` is that of the last one taken. `report` is told now and then how
+    many of how many were taken."""
+    def __init__(self, certificate, report=None):
+        self.lines, self.number, self.report = certificate.split(b'\n'), 0, report
         if not self.lines[-1]:
             self.lines.pop()
 
@@ -389,6 +426,8 @@ class Lines:
         self.number += 1
         if self.number > len(self.lines):
             return None
+        if self.report and self.number % 64 == 0:
+            self.report(self.number, len(self.lines))
         line = self.lines[self.number - 1]
         if len(line) > 524288:
             raise CertificateFault('LineTooLong')
@@ -524,13 +563,26 @@ def read_problems(script, bound):
     steps = steps_of(read_expressions(script))
     try:
         return [Problem(it, bound) for it in Names(steps).checks]
-    except ScriptFault:
+    except ScriptFault as fault:
+        written = fault
+    try:
         return [Problem(rewritten(it, script, bound), bound) for it in Names(steps, roots=True).checks]
+    except ScriptFault as rooted:
+        raise (written if is_told(written, rooted) else rooted)
 
 
-def check(script, certificate, bound=None):
+def is_told(written, rooted):
+    """Whether the fault of a script as it is written is told, where there is one with roots too: where roots mend nothing of it, or
+    it is a divisor before the place from which on the script is too large for them."""
+    (name, at, *limit), (other, place, *other_limit) = written.args, rooted.args
+    if name == 'DivisorNotConstant':
+        return (other, other_limit) == ('TooMany', ['Size']) and at < place
+    return name in ('NumberTooWide', 'ZeroDivisor', 'NoBound', 'BoundTooWide') or limit in (['Size'], ['Nodes'], ['Atoms'], ['Forms'])
+
+
+def check(script, certificate, bound=None, report=None):
     """The exit status of a check and its text on standard output."""
-    lines = Lines(certificate)
+    lines = Lines(certificate, report)
     try:
         return 0, check_certificate(read_problems(script, bound), lines, bound)
     except ScriptFault as fault:
@@ -542,6 +594,33 @@ def check(script, certificate, bound=None):
         return 1, ' '.join(['certificate fault', str(CERTIFICATE_FAULTS.index(name) + 1), name, *rule, f'line {lines.number}']) + '\n'
 
 
+USAGE = """usage: dpoly_checker.py SCRIPT CERT [--bound N]
+
+  SCRIPT     the SMT-LIB script that was solved
+  CERT       the certificate that dpoly wrote of it
+  --bound N  the bound with which it was solved: -N or N for each Real constant without a lower or an upper bound
+
+It prints what dpoly-check prints, with the same exit status: 0 confirmed, or open; 1 the certificate is refused; 2 the script
+is; 3 the arguments are; 4 a file cannot be read. Where standard error is a terminal, or DPOLY_PROGRESS is set, a check of more
+than two seconds shows there how far it is."""
+
+
+def progress():
+    """What shows how far a check is: a line a second that renews itself; None where nobody looks."""
+    if not sys.stderr.isatty() and 'DPOLY_PROGRESS' not in os.environ:
+        return None
+    last = time.monotonic() + 1
+
+    def report(number, count):
+        nonlocal last
+        if time.monotonic() - last >= 1:
+            last = time.monotonic()
+            sys.stderr.write(f'\rdpoly_checker: {number} of {count} lines' + ('' if sys.stderr.isatty() else '\n'))
+            sys.stderr.flush()
+
+    return report
+
+
 def main(arguments):
     """The exit status and the text of a call."""
     bound = None
@@ -550,18 +629,22 @@ def main(arguments):
         bound = int(arguments[at + 1]) if re.fullmatch('[0-9]{1,20}', arguments[at + 1]) else 0
         arguments = arguments[:at] + arguments[at + 2 :]
     if len(arguments) != 2 or any(it.startswith('-') for it in arguments) or bound is not None and not 1 <= bound < 2**32:
+        print(USAGE, file=sys.stderr)
         return 3, 'usage fault\n'
     try:
         texts = []
         for path in arguments:
             with open(path, 'rb') as file:
                 texts.append(file.read())
-    except OSError:
+    except OSError as error:
+        print(f'dpoly_checker: cannot read {path}: {error.strerror}', file=sys.stderr)
         return 4, ''
-    return check(*texts, bound)
+    return check(*texts, bound, progress())
 
 
 if __name__ == '__main__':
     status, text = main(sys.argv[1:])
+    if sys.stderr.isatty():
+        sys.stderr.write('\r\033[K')
     sys.stdout.buffer.write(text.encode('utf-8', 'surrogateescape'))
     sys.exit(status)

@@ -9,12 +9,14 @@ TOP = 1 << 242  # the greatest number of the grid, 2^122
 
 def down(numerator, denominator=1):
     """The greatest end that is not above numerator/denominator units."""
-    if isinstance(numerator, float):
+    if numerator.__class__ is float:
         return numerator
     whole = numerator // denominator
-    if abs(whole) > TOP:
+    shift = whole.bit_length() - 62
+    if shift <= 0:
+        return whole
+    if shift > 180 and abs(whole) > TOP:
         return TOP if whole > 0 else -inf
-    shift = max(0, whole.bit_length() - 62)
     return whole >> shift << shift
 
 
@@ -43,22 +45,49 @@ def minus(a):
     return -a[1], -a[0]
 
 
+def ends(low, high):
+    """Two ends, each a whole number of units or an infinity, rounded outward. Most of the time of a check goes by here, and in
+    `times`, so the rounding of `down` is written out."""
+    if low.__class__ is int:
+        shift = low.bit_length() - 62
+        if shift > 0:
+            low = low >> shift << shift if shift < 181 else down(low)
+    if high.__class__ is int:
+        shift = high.bit_length() - 62
+        if shift > 0:
+            high = -(-high >> shift << shift) if shift < 181 else up(high)
+    return low, high
+
+
 def plus(a, b):
-    return down(a[0] + b[0]), up(a[1] + b[1])
+    return ends(a[0] + b[0], a[1] + b[1])
 
 
 def less(a, b):
-    return plus(a, minus(b))
+    return ends(a[0] - b[1], a[1] - b[0])
 
 
 def times(a, b):
-    products = [x * y if x and y else 0 for x in a for y in b]
-    return down(min(products), UNIT), up(max(products), UNIT)
+    (x0, x1), (y0, y1) = a, b
+    if x0.__class__ is float or x1.__class__ is float or y0.__class__ is float or y1.__class__ is float:
+        products = [x * y if x and y else 0 for x in a for y in b]
+        return down(min(products), UNIT), up(max(products), UNIT)
+    if x0 >= 0 and y0 >= 0:
+        low, high = x0 * y0, x1 * y1
+    else:
+        products = x0 * y0, x0 * y1, x1 * y0, x1 * y1
+        low, high = min(products), max(products)
+    return ends(low >> 120, -(-high >> 120))
 
 
 def square(a):
-    low, high = sorted((a[0] * a[0], a[1] * a[1]))
-    return 0 if a[0] <= 0 <= a[1] else down(low, UNIT), up(high, UNIT)
+    low, high = a
+    if low.__class__ is float or high.__class__ is float:
+        low, high = sorted((low * low, high * high))
+        return 0 if a[0] <= 0 <= a[1] else down(low, UNIT), up(high, UNIT)
+    if low < 0:
+        low, high = (0, max(-low, high)) if high >= 0 else (-high, -low)
+    return ends(low * low >> 120, -(-(high * high) >> 120))
 
 
 def quotient(x, y):

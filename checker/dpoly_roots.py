@@ -5,7 +5,7 @@ from fractions import Fraction
 from math import inf
 
 from dpoly_intervals import UNIT, down, less, minus, plus, quotient, root, rounded, times, up
-from dpoly_script import MOST, THEORIES, Axis, Check, Claim, Expression, Named, Names, ScriptFault, digits_at, goal_claim, name_text, run
+from dpoly_script import MOST, THEORIES, Axis, Check, Claim, Expression, Named, Names, ScriptFault, digits_at, goal_claim, run
 
 MOST_SIZE, MOST_TOKENS = 1048576, 4194304
 TOO_WIDE = 2**62 + 1  # stands for an end that is not there
@@ -115,14 +115,14 @@ def difference_of(a, b):
     return None if a is None or b is None else less(a, b)
 
 
-def misses_nought(a):
-    return a is not None and (a[0] > 0 or a[1] < 0)
+def avoids_nought(a):
+    return a is None or a[0] > 0 or a[1] < 0
 
 
 def quotient_of(a, b):
-    if not misses_nought(b):
+    if not avoids_nought(b):
         return -inf, inf
-    if a is None:
+    if a is None or b is None:
         return None
     ends = [quotient(x, y) for x in a for y in b]
     return min(down(*it) for it in ends), max(up(*it) for it in ends)
@@ -195,7 +195,7 @@ def bounding(tree, parts, reals):
 
 
 def declared_ranges(asserted, axes, bound):
-    """The range of each Real constant: None where its ends cross."""
+    """The range of each Real constant: None, and so of all, where the ends of one cross."""
     ends = {}
     for name, is_upper, end in bounds_in(asserted, axes):
         ends.setdefault((name, is_upper), []).append(end)
@@ -205,7 +205,7 @@ def declared_ranges(asserted, axes, bound):
             words = (-inf, inf) if bound is None else (rounded(Fraction(-bound))[0], rounded(Fraction(bound))[1])
             low, high = max(ends.get((axis.name, False), [words[0]])), min(ends.get((axis.name, True), [words[1]]))
             ranges[axis.name] = (low, high) if low <= high else None
-    return ranges
+    return dict.fromkeys([it.name for it in axes]) if None in ranges.values() else ranges
 
 
 # ---------------------------------------------------------------- The rewritten script
@@ -237,7 +237,7 @@ class Rewriting:
             memo[tree.number] = enclosure_of(tree, [memo[it.number] for it in tree.parts], ranges)
             if tree.of_class not in self.table and (tree.kind == 'root' or tree.kind == 'quotient' and stands_alone(tree, memo)):
                 name = {'root': 'sqrt', 'quotient': 'quotient'}[tree.kind]
-                self.table[tree.of_class] = f'{name}({counts[tree.kind]})', tree, [memo[it.number] for it in tree.parts]
+                self.table[tree.of_class] = f'|{name}({counts[tree.kind]})', tree, [memo[it.number] for it in tree.parts]
                 counts[tree.kind] += 1
 
     def spell(self, tree):
@@ -260,9 +260,11 @@ class Rewriting:
             yield of(at, '=', of(at, '*', c, c), parts[0][0]), 8 + parts[0][1]
             return
         interval = quotient_of(*ranges)
-        for comparison, at_end in (('>=', 0), ('<=', 1)) if interval else ():
-            end = interval[at_end]
-            if abs(end) == inf:
+        for comparison, at_end in ('>=', 0), ('<=', 1):
+            end = interval[at_end] if interval else None
+            if end is None:
+                limit, count = numeral(0, at), 1
+            elif abs(end) == inf:
                 limit, count = numeral(TOO_WIDE, at), 1
                 limit, count = (of(at, '-', limit), 4) if end < 0 else (limit, count)
             else:
@@ -287,7 +289,7 @@ class Rewriting:
 def stands_alone(tree, memo):
     """Whether a constant can stand for a quotient."""
     dividend, divisor = tree.parts
-    return not (dividend.has_choice or divisor.has_choice or divisor.has_root) and misses_nought(memo[divisor.number])
+    return not (dividend.has_choice or divisor.has_choice or divisor.has_root) and avoids_nought(memo[divisor.number])
 
 
 def left_out(asserted):
@@ -335,8 +337,6 @@ def rewritten(check, script, bound):
         claims.append(claim)
     named, axes = {it.name: check.named[it.name] for it in check.axes}, list(check.axes)
     for name, tree, _ in rewriting.table.values():
-        if name in named:
-            raise ScriptFault('Redeclared', tree.at, name_text(name))
         if len(axes) == MOST:
             raise ScriptFault('TooMany', tree.at, 'Axes')
         named[name] = Named('Real', len(axes), {}, None)

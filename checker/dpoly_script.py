@@ -2,6 +2,7 @@
 import re
 from collections import namedtuple
 from fractions import Fraction
+from itertools import groupby
 
 from dpoly_intervals import UNIT, rounded
 
@@ -82,8 +83,10 @@ def digits_at(script, at):
 
 
 def name_text(name):
-    """A name as it is printed."""
+    """A name as it is printed. That of a root or a quotient has a bar at its head, which no name of a script has."""
     name = name.encode('latin-1').decode('utf-8', 'surrogateescape')
+    if name.startswith('|'):
+        return name[1:]
     return name if re.fullmatch(SIMPLE, name) and name not in RESERVED else f'|{name}|'
 
 
@@ -342,6 +345,18 @@ class Terms:
             return self.make('constant', Fraction(*steps[-2:]))
         return self.make('square', a) if sign == '*' and a == b else self.make('plus' if sign == '+' else 'times', a, b)
 
+    def power(self, factor, times):
+        """The tree of a factor that stands so many times: the square of a power, or the factor times that."""
+        if times == 1:
+            return factor
+        square = self.make('square', self.power(factor, times // 2))
+        return self.make('times', factor, square) if times % 2 else square
+
+    def powers(self, factors):
+        """The trees of a product, each that stands several times in a row as one power; a constant is no factor of a power."""
+        rows = [(tree, len(list(row))) for tree, row in groupby(factors)]
+        return [it for tree, times in rows for it in ([self.power(tree, times)] if self.constant(tree) is None else [tree] * times)]
+
     def below(self, term):
         """The numbers of a term's subterms, itself included, in ascending order."""
         if term not in self.memo:
@@ -450,6 +465,9 @@ class Problem:
                 raise ScriptFault('DivisorNotConstant' if None in divisors else 'ZeroDivisor', at)
             if name == '-' and len(values) == 1:
                 return (yield self.apart(lambda a: self.terms.operation('-', at, a), 'choice', values))
+            if name == '*' and all(isinstance(it, int) for it in values):
+                values = self.terms.powers(values)
+            result = values[0]
             for it in values[1:]:
                 result = yield self.apart(lambda a, b: self.terms.operation(name, at, a, b), 'choice', [result, it])
             return result

@@ -34,8 +34,9 @@ class Local:
 
 
 class Parallel:
-    """GNU parallel, on the machines that its words name; with no words, on this one. One call has all commands. Those that are
-    submitted while it runs wait for its end, since the places of a machine that is lost are lost, and others are taken."""
+    """GNU parallel, on the machines that its words name; with no words, on this one. One call has all commands, with a NUL
+    between them, since a path may hold a line feed. Those that are submitted while it runs wait for its end, since the places of
+    a machine that is lost are lost, and others are taken."""
 
     LOG = 'parallel.log'
 
@@ -53,9 +54,9 @@ class Parallel:
         """Starts those that wait."""
         if os.path.exists(self.LOG):
             os.remove(self.LOG)
-        words = ['parallel', '--will-cite', '--sshdelay', '0.1', '--joblog', self.LOG, *self.words]
+        words = ['parallel', '--will-cite', '--null', '--sshdelay', '0.1', '--joblog', self.LOG, *self.words]
         self.process = subprocess.Popen(words, stdin=subprocess.PIPE, stdout=subprocess.DEVNULL, start_new_session=True)
-        self.process.stdin.write(''.join(shlex.join(it) + '\n' for it in self.waiting.values()).encode())
+        self.process.stdin.write('\0'.join(map(shlex.join, self.waiting.values())).encode())
         self.process.stdin.close()
         self.going, self.waiting = list(self.waiting), {}
 

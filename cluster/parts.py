@@ -12,11 +12,25 @@ import contextlib
 import json
 import os
 import random
+import stat
 import subprocess
 import sys
 import time
 
+# So many bytes a certificate has at most, and each other file: what is known of a result, a task, a driver's name.
+MOST_OF_CERTIFICATE, MOST_KNOWN = 1 << 32, 1 << 26
 BRANCHES, STEPS, LEAVING = {b'cut', b'flip', b'case'}, {b'pull', b'push', b'comb', b'unit', b'ban'}, {b'open', b'stuck'}
+
+
+def read(name, most):
+    """The bytes of a plain file, so many at most. Another one is an error: any file of the work folder may be a link."""
+    with open(name, 'rb', opener=lambda path, flags: os.open(path, flags | os.O_NONBLOCK)) as file:
+        if not stat.S_ISREG(os.fstat(file.fileno()).st_mode):
+            raise ValueError('%s is no plain file' % name)
+        data = file.read(most + 1)
+    if len(data) > most:
+        raise ValueError('%s is too long' % name)
+    return data
 
 
 def write(name, data):
@@ -53,16 +67,34 @@ def outline(tree, words, own):
 
 def told(name):
     """What is known of a result: the numbers of its parts, and besides how many lines are open in what it leaves to do,
-    how many branches that has, how many splits were made for the result, and in how many seconds, where that is known."""
-    with open('open/%s.json' % name, encoding='ascii') as file:
-        return json.load(file)
+    how many branches that has, how many splits were made for the result, and in how many seconds, where that is known. An
+    error where the file says something else."""
+    known = json.loads(read('open/%s.json' % name, MOST_KNOWN))
+    if not is_known(known):
+        raise ValueError('open/%s.json is not what is known of a result' % name)
+    return known
+
+
+def is_count(value):
+    return type(value) is int and value >= 0
+
+
+def is_known(value):
+    """Whether this is what `keep` writes of a result."""
+    return (
+        isinstance(value, dict)
+        and type(value.get('is_point')) is bool
+        and isinstance(value.get('parts'), list)
+        and all(map(is_count, value['parts']))
+        and all(is_count(value.get(name)) for name in ('open', 'branches', 'splits'))
+        and type(value.get('seconds')) in (int, float)
+    )
 
 
 def keep(name, there, seconds=0):
     """Makes what stands under `there`, which took so long, the result of this name, unless that has one. An error where it
     is no whole certificate."""
-    with open(there, 'rb') as file:
-        lines = file.read().split(b'\n')
+    lines = read(there, MOST_OF_CERTIFICATE).split(b'\n')
     parent, _, number = name.rpartition('-')
     known = {'is_point': lines[4] == b'point', 'parts': [], 'open': 0, 'branches': 0, 'splits': 0, 'seconds': seconds}
     if lines[-2:] != [b'end', b'']:
@@ -110,7 +142,10 @@ def resume(task, name, budget):
 def taken(folder, number, jobs):
     """A free part, its budget, and where it stands now; None where there is none. One of the first as many as there are
     jobs, so that few of them want the same."""
-    first = sorted(os.listdir(folder + '/queue'))[:jobs]
+    try:
+        first = sorted(os.listdir(folder + '/queue'))[:jobs]
+    except FileNotFoundError:
+        return None
     for it in random.sample(first, len(first)):
         _, budget, name = it.split('.')
         there = '%s/taken/%s.%s' % (folder, number, name)
@@ -130,18 +165,20 @@ class Presence:
 
     def is_there(self):
         """Whether it is at work. How long ago the file was touched is told by the clock of this machine alone."""
-        with open('driver', encoding='ascii') as file:
-            touched = os.fstat(file.fileno()).st_mtime_ns
-            if file.read() != self.task['driver']:
+        try:
+            touched = os.stat('driver').st_mtime_ns
+            if read('driver', MOST_KNOWN) != self.task['driver'].encode():
                 return False
+        except FileNotFoundError:
+            # the work is done, and its folder gone
+            return False
         if touched != self.touched:
             self.touched, self.seen = touched, time.monotonic()
         return time.monotonic() < self.seen + self.task['patience']
 
 
 def main(folder, number):
-    with open(folder + '/task', encoding='ascii') as file:
-        task = json.load(file)
+    task = json.loads(read(folder + '/task', MOST_KNOWN))
     os.chdir(os.path.dirname(os.path.dirname(folder)))
     driver, pause = Presence(task), 0.02
     while driver.is_there():

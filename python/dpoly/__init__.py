@@ -11,14 +11,17 @@ Formulas are built from `Real` and `Bool` with Python's operators and `And`, `Or
 written for z3 or dReal.
 """
 from .convert import Conversion, ConversionError, convert
+from .runs import Extremum, Part, Plan, join, maximize, minimize, minimize_script, needed_of, plan, plan_script, resume, solve_each
 from .script import script_of
 from .solver import (
     Answer,
     CertificateError,
     DeltaSat,
     DpolyError,
+    OutOfTime,
     ProgramError,
     Programs,
+    Question,
     ScriptError,
     Unknown,
     Unsat,
@@ -27,7 +30,7 @@ from .solver import (
     solve,
     solve_script,
 )
-from .terms import And, Bool, Distinct, Expression, Formula, If, Implies, Not, Number, Or, Real, Term, Xor
+from .terms import And, Bool, Distinct, Expression, Formula, If, Implies, Max, Min, Not, Number, Or, Real, Sqrt, Term, Xor
 
 __all__ = [
     "And",
@@ -40,16 +43,24 @@ __all__ = [
     "Distinct",
     "DpolyError",
     "Expression",
+    "Extremum",
     "Formula",
     "If",
     "Implies",
+    "Max",
+    "Min",
     "Not",
     "Number",
     "Or",
+    "OutOfTime",
+    "Part",
+    "Plan",
     "ProgramError",
     "Programs",
+    "Question",
     "Real",
     "ScriptError",
+    "Sqrt",
     "Term",
     "Unknown",
     "Unsat",
@@ -57,7 +68,16 @@ __all__ = [
     "Xor",
     "convert",
     "find_programs",
+    "join",
+    "maximize",
+    "minimize",
+    "minimize_script",
+    "needed_of",
+    "plan",
+    "plan_script",
+    "resume",
     "script_of",
     "solve",
+    "solve_each",
     "solve_script",
 ]

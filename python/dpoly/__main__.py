@@ -1,32 +1,9 @@
-"""`python3 -m dpoly convert FILE`: a script that was written for z3 or dReal, in the program's language."""
+"""`python3 -m dpoly COMMAND`: `convert` writes a script of z3 or dReal in the program's language; `solve`, `minimize` and `check`
+run the programs and print JSON; `coq` writes a theorem of Coq, `trim` a shorter certificate."""
 from __future__ import annotations
 
-import argparse
 import sys
 
-from .convert import ConversionError, convert
-
-
-def main() -> int:
-    parser = argparse.ArgumentParser(prog="python3 -m dpoly", description="Tools around the solver dpoly.")
-    commands = parser.add_subparsers(dest="command", required=True)
-    reads = commands.add_parser("convert", help="writes a script of z3 or dReal in the language of dpoly")
-    reads.add_argument("file", metavar="FILE", help="the script; - is standard input")
-    words = parser.parse_args()
-    try:
-        if words.file == "-":
-            text = sys.stdin.read()
-        else:
-            with open(words.file, encoding="utf-8") as file:
-                text = file.read()
-        done = convert(text)
-    except (ConversionError, OSError, UnicodeDecodeError) as error:
-        print(f"dpoly convert: {words.file}: {error}", file=sys.stderr)
-        return 1
-    if done.delta_bits is not None:
-        print(f"; solve it with --delta-bits {done.delta_bits}")
-    sys.stdout.write(done.text)
-    return 0
-
+from .commands import main
 
 sys.exit(main())

@@ -3,357 +3,404 @@ from __future__ import annotations
 
 import re
 from dataclasses import dataclass
-from decimal import Decimal
 from fractions import Fraction
-from typing import Callable, Dict, Iterator, List, Optional, Tuple, Union
+from typing import Callable, Dict, List, Optional, Sequence, Tuple
 
-from .terms import Constant, fraction_of
+from .approx import ERROR, FUNCTIONS, choice_of_pieces, enclosed
+from .approx import FINEST as FINEST_ERROR
+from .ranges import WHOLE, Empty, Interval, bound_texts, forward, implied_bounds, propagated
+from .script import text_of
+from .smtlib import SORTS, Code, ConversionError, Declared, Defined, Functions, Group, Scope, Token, Tree, Writer, fault, is_word, label_of, number_of, plain, trees
+from .terms import Operation, spelled
+from .values import Graph, TooDear
 
-MOST_POWER = 1000
-"""The largest exponent that is written out."""
-
-
-class ConversionError(ValueError):
-    """What the script says has no counterpart, or is no SMT-LIB. `line` and `column` count from 1."""
-
-    def __init__(self, what: str, line: int, column: int) -> None:
-        self.line, self.column = line, column
-        super().__init__(f"{line}:{column}: {what}")
+__all__ = ["Conversion", "ConversionError", "convert"]
+FINEST = Fraction(1, 2**30)
+"""The least delta that the program takes."""
 
 
 @dataclass(frozen=True)
 class Conversion:
     """`text` is the script in the program's language. Where the script asks for a precision, `delta_bits` (and `margin_bits`,
-    where its default is not above that) are options that give at least this precision."""
+    where its default is not above that) are options that give at least this precision. `enclosed` names the functions that stand
+    there as polynomials with a remainder: an unsat holds of the script itself, a point is one of the enclosure."""
 
     text: str
     delta_bits: Optional[int] = None
     margin_bits: Optional[int] = None
+    enclosed: Tuple[str, ...] = ()
 
-
-@dataclass(frozen=True)
-class Token:
-    kind: str
-    text: str
-    line: int
-    column: int
-
-
-@dataclass(frozen=True)
-class Group:
-    """A list in parentheses, with the place of the opening one."""
-
-    items: Tuple["Tree", ...]
-    line: int
-    column: int
-
-
-Tree = Union[Token, Group]
-
-TOKENS = re.compile(
-    r"""(?P<space>[ \t\r\n]+|;[^\n]*)
-    |(?P<open>\()|(?P<close>\))|(?P<bracket>[\[\],])
-    |(?P<string>"(?:[^"]|"")*")
-    |(?P<quoted>\|[^|\\]*\|)
-    |(?P<keyword>:[A-Za-z0-9~!@$%^&*_\-+=<>.?/]+)
-    |(?P<number>[0-9]+(?:\.[0-9]*)?(?:[eE][+-]?[0-9]+)?(?![A-Za-z0-9~!@$%^&*_+=<>.?/]))
-    |(?P<symbol>[A-Za-z~!@$%^&*_\-+=<>.?/][A-Za-z0-9~!@$%^&*_\-+=<>.?/]*)""",
-    re.VERBOSE,
-)
-
-
-def tokens(text: str) -> Iterator[Token]:
-    at, line, start = 0, 1, 0
-    while at < len(text):
-        found = TOKENS.match(text, at)
-        if not found:
-            raise ConversionError(f"{text[at]!r} begins no token of SMT-LIB", line, at - start + 1)
-        kind = str(found.lastgroup)
-        if kind != "space":
-            yield Token(kind, found[0], line, at - start + 1)
-        line += found[0].count("\n")
-        start = found.start() + found[0].rindex("\n") + 1 if "\n" in found[0] else start
-        at = found.end()
-
-
-def trees(text: str) -> Iterator[Tree]:
-    """The expressions of the text, one after the other. Brackets stay tokens."""
-    stack: List[Tuple[Token, List[Tree]]] = []
-    for token in tokens(text):
-        if token.kind == "open":
-            stack.append((token, []))
-            continue
-        tree: Tree = token
-        if token.kind == "close":
-            if not stack:
-                raise ConversionError("a parenthesis closes nothing", token.line, token.column)
-            opened, items = stack.pop()
-            tree = Group(tuple(items), opened.line, opened.column)
-        if stack:
-            stack[-1][1].append(tree)
-        else:
-            yield tree
-    if stack:
-        raise ConversionError("a parenthesis is not closed", stack[-1][0].line, stack[-1][0].column)
+    @property
+    def options(self) -> List[str]:
+        """The options for the command line."""
+        words = [("--delta-bits", self.delta_bits), ("--margin-bits", self.margin_bits)]
+        return [it for word, bits in words if bits is not None for it in (word, str(bits))]
 
 
 def convert(text: str) -> Conversion:
-    """The script in the program's language: bounds of declarations as assertions, whole powers as products of named squares,
-    `abs`, `min` and `max` as choices, decimals with an exponent as fractions, the precision as the delta to ask for. Raises
-    `ConversionError`, with the place, for what has no counterpart."""
+    """The script in the program's language: bounds of declarations, and those that follow from the assertions, as assertions,
+    whole powers as products of named squares, `abs`, `min` and `max` as choices, `sin`, `exp` and others as polynomials with a
+    remainder, decimals with an exponent as fractions, the precision as the delta to ask for. What the program reads stays as it is.
+    A name that the script declares, defines or binds is that, whatever it is elsewhere. Raises `ConversionError`, with the place,
+    for what has no counterpart."""
     return Converter(text).whole()
 
 
+def commands_of(text: str) -> List[Tree]:
+    """The expressions of a script, up to `(exit)`."""
+    found: List[Tree] = []
+    for tree in trees(text):
+        found.append(tree)
+        if isinstance(tree, Group) and len(tree.items) == 1 and tree.head == "exit":
+            break
+    return found
+
+
+def labels_in_use(commands: Sequence[Tree]) -> Dict[str, Tree]:
+    """The labels of `:named` that occur as names too."""
+    labels, uses, left = {}, set(), list(commands)
+    while left:
+        tree = left.pop()
+        if isinstance(tree, Token):
+            if tree.symbol is not None:
+                uses.add(tree.symbol)
+            continue
+        is_label = False
+        for it in tree.items:
+            if is_label and isinstance(it, Token) and it.symbol is not None:
+                labels[it.symbol] = tree
+            else:
+                left.append(it)
+            is_label = is_word([it], ":named")
+    return {name: tree for name, tree in labels.items() if name in uses}
+
+
+class Enclosures(Functions):
+    """Functions as polynomials of arguments whose bounds are known (`approx.py`). `error` bounds each remainder, a constant that
+    `declared` has the lines for; `bounds` has the bounds of the constants, None while these are looked for."""
+
+    names = frozenset(FUNCTIONS)
+
+    def __init__(self, text: str, bounds: Optional[Dict[str, Interval]]) -> None:
+        self.source, self.bounds, self.error = text, bounds, ERROR
+        self.declared: List[str] = []
+        self.used: Dict[str, int] = {}
+
+    def text(self, name: str, bound: str, code: Code, tree: Tree) -> str:
+        if self.bounds is None:
+            return bound
+        graph = Graph(code)
+        interval = forward(graph, {it: self.bounds.get(it, WHOLE) for it in graph.constants()})[graph.root]
+        if interval is None or None in interval:
+            raise fault(f"{name} has no counterpart where its argument has no bounds: state bounds of the constants in it", tree)
+        try:
+            pieces = enclosed(name, *interval, self.error)  # type: ignore[arg-type]
+        except ValueError as error:
+            raise fault(str(error), tree) from None
+        most = max(it.error for it in pieces)
+        remainder = self.remainder(name)
+        self.declared += [f"(declare-const {remainder} Real)", *bound_texts(remainder, (-most, most))]
+        argument = Operation(bound)
+        found = choice_of_pieces(argument, pieces)
+        return text_of(found + Operation(remainder), {bound, remainder})
+
+    def remainder(self, name: str) -> str:
+        while True:
+            number = self.used.get(name, 0)
+            self.used[name] = number + 1
+            if f"|{name}({number})|" not in self.source:
+                return f"|{name}({number})|"
+
+    def taken(self) -> List[str]:
+        """The lines that declare the remainders since the last call."""
+        found, self.declared = self.declared, []
+        return found
+
+
+def bounds_of_whole(text: str) -> Dict[str, Interval]:
+    """The bounds of the constants in a script with one check and no levels, wherever it states them; none of another script."""
+    scout = Converter(text, is_scout=True)
+    words = [it.head for it in scout.commands if isinstance(it, Group)]
+    if sum(word in ("check-sat", "check-sat-assuming") for word in words) != 1 or {"push", "pop", "reset", "reset-assertions"} & set(words):
+        return {}
+    scout.whole()
+    try:
+        return propagated([it for it in scout.asserted if it is not None], scout.reals())
+    except (Empty, TooDear):
+        return {}
+
+
 class Converter:
-    def __init__(self, text: str) -> None:
-        self.trees = list(trees(text))
-        self.prefix = "power"
-        while self.prefix in text:
-            self.prefix += "_"
-        self.names = 0
-        self.precision: Optional[Fraction] = None
+    def __init__(self, text: str, is_scout: bool = False) -> None:
+        self.commands = commands_of(text)
+        self.scope = Scope()
+        self.labels = labels_in_use(self.commands)
+        is_asked = not is_scout and FUNCTIONS.keys() & set(re.findall(r"[a-z]+", text))
+        self.enclosures = Enclosures(text, None if is_scout else bounds_of_whole(text) if is_asked else {})
+        self.writer = Writer(self.scope, self.labels, self.enclosures)
+        self.has_logic = self.has_goal = False
+        # the assertions in force, None for one that is too large, and how many there were at each `push`
+        self.asserted: List[Optional[Graph]] = []
+        self.levels: List[int] = []
+        self.precision: Optional[Tuple[int, Optional[int]]] = None
 
     def whole(self) -> Conversion:
-        lines: List[str] = []
-        for tree in self.trees:
-            lines += self.command(tree)
+        lines = [line for tree in self.commands for made in [self.command(tree)] for line in [*self.enclosures.taken(), *made]]
         delta = margin = None
         if self.precision is not None:
-            delta = next((bits for bits in range(1, 31) if Fraction(1, 2**bits) <= self.precision), 30)
-            margin = min(delta + 10, 60) if delta >= 20 else None
-        return Conversion("\n".join([*lines, ""]), delta, margin)
+            delta, margin = self.precision
+        return Conversion("\n".join([*lines, ""]), delta, margin, tuple(self.enclosures.used))
+
+    def reals(self) -> List[str]:
+        return [it.name for it in self.scope.names.values() if isinstance(it, Declared) and it.sort == "Real"]
 
     def command(self, tree: Tree) -> List[str]:
-        if isinstance(tree, Token) or not tree.items or not isinstance(tree.items[0], Token):
+        name = tree.head if isinstance(tree, Group) else None
+        if not isinstance(tree, Group) or name is None:
             raise fault("a command is wanted here", tree)
-        name = tree.items[0].text
-        if name in ("declare-fun", "declare-const"):
-            return self.declaration(tree, name)
-        if name == "assert" and len(tree.items) == 2:
-            return [f"(assert {self.expression(tree.items[1])})"]
-        if name == "define-fun" and len(tree.items) == 5:
-            return [self.definition(tree)]
-        if name == "set-option" and is_word(tree.items[1:2], ":precision"):
-            self.precision = self.number(tree.items[2] if len(tree.items) == 3 else tree)
-            if self.precision <= 0:
-                raise fault("a precision has to be above 0", tree)
-            return []
-        if name == "set-logic":
-            return [self.logic(tree)]
-        if name in ("set-info", "set-option", "check-sat", "get-model", "exit"):
-            return [plain(tree)]
-        raise fault(f"the command {name} has no counterpart", tree)
+        counts, made = COMMANDS.get(name, ((), None))
+        if made is None:
+            raise fault(f"the command {name} has no counterpart" + HINTS.get(name, ""), tree)
+        if counts and len(tree.items) - 1 not in counts:
+            raise fault(f"the command {name} has another form", tree)
+        return made(self, tree)
 
-    def logic(self, tree: Group) -> str:
-        name = plain(tree.items[1]) if len(tree.items) == 2 else ""
+    # ---- what takes effect
+
+    def logic(self, tree: Group) -> List[str]:
+        name = plain(tree.items[1])
+        if self.has_logic:
+            raise fault("the logic is set already", tree)
         if name not in ("QF_NRA", "QF_LRA", "QF_NRA_ODE", "ALL"):
-            raise fault(f"the logic {name or '(none)'} has no counterpart", tree)
-        return f"(set-logic {'QF_LRA' if name == 'QF_LRA' else 'QF_NRA'})"
+            raise fault(f"the logic {name} has no counterpart", tree)
+        self.has_logic = True
+        return [f"(set-logic {'QF_LRA' if name == 'QF_LRA' else 'QF_NRA'})"]
 
-    def declaration(self, tree: Group, command: str) -> List[str]:
+    def option(self, tree: Group) -> List[str]:
+        if not is_word(tree.items[1:2], ":precision"):
+            return self.as_it_is(tree)
+        precision = number_of(tree.items[2] if len(tree.items) == 3 else tree)
+        self.precision = precision_bits(precision, tree)
+        self.enclosures.error = max(min(ERROR, precision / 8), FINEST_ERROR)
+        return []
+
+    def declaration(self, tree: Group) -> List[str]:
         """`(declare-fun x () Real [0, 10])`, `(declare-const x Real 0 10)` and those without bounds."""
         items = list(tree.items[1:])
-        if command == "declare-fun" and len(items) >= 2:
+        if tree.head == "declare-fun" and len(items) >= 2:
             parameters = items.pop(1)
             if not isinstance(parameters, Group) or parameters.items:
                 raise fault("a function with arguments has no counterpart", parameters)
         if len(items) < 2 or not isinstance(items[0], Token):
             raise fault("a declaration has a name and a sort", tree)
-        name, sort = items[0].text, plain(items[1])
-        if sort not in ("Real", "Bool"):
-            raise fault(f"the sort {sort} has no counterpart", items[1])
+        name, sort = name_in(items[0]), sort_in(items[1])
         ends = self.ends(items[2:], tree)
         if ends and sort == "Bool":
             raise fault("a Bool constant has no bounds", tree)
-        made = [f"(declare-const {name} {sort})"]
-        if ends:
-            low, high = ends
-            sides = [*([low] if low else []), name, *([high] if high else [])]
-            made += [f"(assert (<= {' '.join(sides)}))"] if len(sides) > 1 else []
-        return made
+        self.scope.add(Declared(name, sort), tree)
+        made = [f"(declare-const {items[0].text} {sort})"]
+        if ends is None or ends == WHOLE:
+            return made
+        low, high = ends
+        sides: List[Tuple[object, ...]] = [*([("number", low)] if low is not None else []), ("constant", name), *([("number", high)] if high is not None else [])]
+        self.asserted.append(graph_of(Code([*sides, ("apply", "<=", len(sides))])))
+        return made + bound_texts(items[0].text, ends)
 
-    def ends(self, items: List[Tree], tree: Group) -> Optional[Tuple[str, str]]:
-        """The bounds behind a declaration, `[a, b]` or `a b`; an infinite one is empty."""
-        inner = [it for it in items if not (isinstance(it, Token) and it.kind == "bracket")]
-        brackets = "".join(it.text for it in items if isinstance(it, Token) and it.kind == "bracket")
+    def ends(self, items: List[Tree], tree: Group) -> Optional[Interval]:
+        """The bounds behind a declaration, `[a, b]` or `a b`; None for an infinite one."""
         if not items:
             return None
-        groups = self.sides(inner)
-        if brackets not in ("", "[,]") or len(groups) != 2:
+        inner = [it for it in items if not (isinstance(it, Token) and it.kind == "bracket")]
+        brackets = "".join(it.text for it in items if isinstance(it, Token) and it.kind == "bracket")
+        found = self.sides(inner)
+        if brackets not in ("", "[,]") or len(found) != 2 or brackets and (not is_word(items[:1], "[") or not is_word(items[-1:], "]")):
             raise fault("bounds are written [a, b]", tree)
-        return groups[0], groups[1]
+        return found[0], found[1]
 
-    def sides(self, items: List[Tree]) -> List[str]:
-        """The numbers in the items; a minus may stand before one, and `inf` stands for none."""
-        found, is_negative = [], False
+    def sides(self, items: List[Tree]) -> List[Optional[Fraction]]:
+        """The numbers in the items; a sign may stand before one, and `inf` stands for none."""
+        found: List[Optional[Fraction]] = []
+        sign = 1
         for it in items:
             if is_word([it], "-") or is_word([it], "+"):
-                is_negative = is_word([it], "-")
+                sign = -1 if is_word([it], "-") else 1
                 continue
-            word = plain(it)
-            if word.lstrip("+-") in ("inf", "infinity", "oo"):
-                found.append("")
+            if isinstance(it, Token) and it.text.lstrip("+-") in ("inf", "infinity", "oo"):
+                found.append(None)
             else:
-                number = self.number(it)
-                found.append(Constant(-number if is_negative else number).symbol)
-            is_negative = False
+                found.append(sign * number_of(it))
+            sign = 1
         return found
 
-    def number(self, tree: Tree) -> Fraction:
-        """The number that a constant expression of `-`, `/` and numerals stands for."""
-        if isinstance(tree, Token):
-            word = tree.text
-            signed = re.fullmatch(r"([+-]?)((?:[0-9]+\.?[0-9]*|\.[0-9]+)(?:[eE][+-]?[0-9]+)?)", word)
-            if signed:
-                return self.checked(signed[2], tree) * (-1 if signed[1] == "-" else 1)
-        elif is_word(tree.items[:1], "-") and len(tree.items) == 2:
-            return -self.number(tree.items[1])
-        elif is_word(tree.items[:1], "/") and len(tree.items) == 3:
-            divisor = self.number(tree.items[2])
-            if divisor:
-                return self.number(tree.items[1]) / divisor
-        raise fault("a number is wanted here", tree)
+    def definition(self, tree: Group) -> List[str]:
+        name, listed, sort, body = tree.items[1:]
+        parameters = self.parameters(listed)
+        written = self.writer.write(body, sort_in(sort), parameters)
+        self.scope.add(Defined(name_in(name), written.sort, tuple(it for _, it in parameters), written.code), tree)
+        return [f"(define-fun {plain(name)} {plain(listed)} {written.sort} {written.text})"]
 
-    def checked(self, word: str, tree: Token) -> Fraction:
-        exponent = re.search(r"[eE]([+-]?[0-9]+)$", word)
-        if exponent and abs(int(exponent[1])) > 400:
-            raise fault(f"{word} is too large or too small", tree)
-        try:
-            return fraction_of(Fraction(Decimal(word)))
-        except ValueError as error:
-            raise fault(str(error), tree) from None
-
-    def definition(self, tree: Group) -> str:
-        _, name, parameters, sort, body = tree.items
-        if not isinstance(parameters, Group) or plain(sort) not in ("Real", "Bool"):
-            raise fault("a definition has parameters and the sort Real or Bool", tree)
-        for it in parameters.items:
-            if not isinstance(it, Group) or len(it.items) != 2 or plain(it.items[1]) not in ("Real", "Bool"):
+    def parameters(self, listed: Tree) -> List[Tuple[Token, str]]:
+        if not isinstance(listed, Group):
+            raise fault("the parameters of a definition are a list", listed)
+        for it in listed.items:
+            if not isinstance(it, Group) or len(it.items) != 2 or not isinstance(it.items[0], Token):
                 raise fault("a parameter has a name and the sort Real or Bool", it)
-        return f"(define-fun {plain(name)} {plain(parameters)} {plain(sort)} {self.expression(body)})"
+        return [(it.items[0], sort_in(it.items[1])) for it in listed.items]  # type: ignore[union-attr, misc]
 
-    def expression(self, root: Tree) -> str:
-        """The expression as text; a stack of its own, since scripts that programs write nest deep."""
-        made: List[str] = []
-        left: List[Tuple[Tree, bool]] = [(root, False)]
+    def named_constant(self, tree: Group) -> List[str]:
+        """`(define-const c Real t)` of z3."""
+        name, sort, body = tree.items[1:]
+        written = self.writer.write(body, sort_in(sort))
+        self.scope.add(Defined(name_in(name), written.sort, (), written.code), tree)
+        return [f"(define-fun {plain(name)} () {written.sort} {written.text})"]
+
+    def assertion(self, tree: Group) -> List[str]:
+        term, label = label_of(tree.items[1])
+        written = self.writer.write(term if label else tree.items[1], "Bool")
+        self.asserted.append(graph_of(written.code))
+        if label is None or label.symbol not in self.labels:
+            return [f"(assert {written.text})"]
+        self.scope.add(Defined(name_in(label), "Bool", (), written.code), label)
+        return [f"(define-fun {label.text} () Bool {written.text})", f"(assert {label.text})"]
+
+    def goal(self, tree: Group) -> List[str]:
+        if self.has_goal:
+            raise fault("a script has one minimize", tree)
+        self.has_goal = True
+        return [f"(minimize {self.writer.write(tree.items[1], 'Real').text})"]
+
+    def check(self, tree: Group) -> List[str]:
+        return [*self.implied(), plain(tree)]
+
+    def implied(self) -> List[str]:
+        """Bounds that follow from the assertions, for constants for which they state none."""
+        known = [it for it in self.asserted if it is not None]
+        used = {name for it in known for name in it.constants()}
+        found = implied_bounds(known, [it for it in self.reals() if it in used])
+        return [line for name, bounds in found.items() for line in bound_texts(spelled(name), bounds)]
+
+    def assumed(self, tree: Group) -> List[str]:
+        """A check with assumptions. The program takes names and their negations; of anything else a level is opened."""
+        listed = tree.items[1]
+        if not isinstance(listed, Group):
+            raise fault("the assumptions are a list", listed)
+        terms = [self.writer.write(it, "Bool").text for it in listed.items]
+        if all(is_literal(it) for it in listed.items):
+            return [*self.implied(), f"(check-sat-assuming ({' '.join(terms)}))"]
+        return [*self.implied(), "(push 1)", *(f"(assert {it})" for it in terms), "(check-sat)", "(pop 1)"]
+
+    def values(self, tree: Group) -> List[str]:
+        listed = tree.items[1]
+        if not isinstance(listed, Group) or not listed.items:
+            raise fault("get-value has a list of terms", tree)
+        return [f"(get-value ({' '.join(self.writer.write(it, None).text for it in listed.items)}))"]
+
+    def levels(self, tree: Group) -> List[str]:
+        count = level_count(tree)
+        if tree.head == "push":
+            self.scope.push(count, tree)
+            self.levels += [len(self.asserted)] * count
+        elif count:
+            self.scope.pop(count, tree)
+            del self.asserted[self.levels[-count] :], self.levels[-count:]
+        return [f"({tree.head} {count})"]
+
+    def emptied(self, tree: Group) -> List[str]:
+        self.scope.reset()
+        self.asserted, self.levels = [], []
+        self.has_logic = self.has_logic and tree.head != "reset"
+        return [plain(tree)]
+
+    def said(self, tree: Group) -> List[str]:
+        if not isinstance(tree.items[1], Token) or tree.items[1].kind != "string":
+            raise fault("echo has a string", tree)
+        return [plain(tree)]
+
+    def as_it_is(self, tree: Group) -> List[str]:
+        left: List[Tree] = [tree]
         while left:
-            tree, is_open = left.pop()
-            if isinstance(tree, Token):
-                made.append(self.leaf(tree))
-            elif is_open:
-                count = len(parts_of(tree))
-                parts = made[len(made) - count :]
-                del made[len(made) - count :]
-                made.append(self.joined(tree, parts))
-            else:
-                if isinstance(tree.items[0] if tree.items else None, Token) and tree.items[0].text in UNKNOWN:
-                    raise fault(f"{tree.items[0].text} has no counterpart", tree.items[0])
-                left.append((tree, True))
-                left += [(it, False) for it in reversed(parts_of(tree))]
-        return made[0]
-
-    def leaf(self, token: Token) -> str:
-        if token.kind == "number" and re.search("[eE]", token.text):
-            return Constant(self.checked(token.text, token)).symbol
-        if token.kind in ("number", "symbol", "quoted"):
-            if token.text in UNKNOWN:
-                raise fault(f"{token.text} has no counterpart", token)
-            return token.text
-        raise fault(f"{token.text} has no place in a term", token)
-
-    def joined(self, tree: Group, parts: List[str]) -> str:
-        head = tree.items[0]
-        if not isinstance(head, Token):
-            raise fault("an operator is wanted here", tree)
-        name = head.text
-        if name == "let":
-            pairs = tree.items[1].items  # type: ignore[union-attr]
-            bound = " ".join(f"({plain(it.items[0])} {part})" for it, part in zip(pairs, parts))  # type: ignore[union-attr]
-            return f"(let ({bound}) {parts[-1]})"
-        if name == "!":
-            return parts[0]
-        if name in ("^", "pow"):
-            return self.power(tree, parts)
-        if name in CHOICES:
-            return self.choice(name, parts, tree)
-        return f"({' '.join([name, *parts])})" if parts else f"({name})"
-
-    def fresh(self) -> str:
-        self.names += 1
-        return f"{self.prefix}{self.names}"
-
-    def power(self, tree: Group, parts: List[str]) -> str:
-        """A whole power: `(^ x 5)` is x times the square of the square of x, each square named."""
-        if len(parts) != 2:
-            raise fault("a power has a base and an exponent", tree)
-        try:
-            exponent = self.number(tree.items[2])
-        except ConversionError:
-            exponent = Fraction(-1)
-        if exponent.denominator != 1 or not 0 <= exponent <= MOST_POWER:
-            raise fault(f"an exponent has to be a whole number from 0 to {MOST_POWER}", tree.items[2])
-        if exponent == 0:
-            return "1"
-        base, opened = parts[0], []
-
-        def named(value: str) -> str:
-            name = self.fresh()
-            opened.append(f"(let (({name} {value})) ")
-            return name
-
-        base = base if isinstance(tree.items[1], Token) or exponent == 1 else named(base)
-        value = base
-        for bit in bin(int(exponent))[3:]:
-            value = value if value == base else named(value)
-            value = f"(* {value} {value})"
-            if bit == "1":
-                value = f"(* {value} {base})"
-        return "".join(opened) + value + ")" * len(opened)
-
-    def choice(self, name: str, parts: List[str], tree: Group) -> str:
-        if len(parts) != (1 if name == "abs" else 2):
-            raise fault(f"{name} has another number of arguments", tree)
-        names = [self.fresh() for _ in parts]
-        bound = " ".join(f"({it} {part})" for it, part in zip(names, parts))
-        return f"(let ({bound}) {CHOICES[name](*names)})"
+            it = left.pop()
+            if isinstance(it, Group):
+                left += reversed(it.items)
+            elif it.kind == "bracket":
+                raise fault(f"{it.text} has no place here", it)
+            elif it.kind == "number" and not it.text.replace(".", "").isdigit():
+                raise fault("a literal with an exponent has no place here", it)
+        return [plain(tree)]
 
 
-CHOICES: Dict[str, Callable[..., str]] = {
-    "abs": lambda a: f"(ite (>= {a} 0) {a} (- {a}))",
-    "min": lambda a, b: f"(ite (<= {a} {b}) {a} {b})",
-    "max": lambda a, b: f"(ite (>= {a} {b}) {a} {b})",
+# the numbers of arguments (none: any), and the method
+COMMANDS: Dict[str, Tuple[Tuple[int, ...], Callable[[Converter, Group], List[str]]]] = {
+    "set-logic": ((1,), Converter.logic),
+    "set-option": ((), Converter.option),
+    "declare-fun": ((), Converter.declaration),
+    "declare-const": ((), Converter.declaration),
+    "define-fun": ((4,), Converter.definition),
+    "define-const": ((3,), Converter.named_constant),
+    "assert": ((1,), Converter.assertion),
+    "minimize": ((1,), Converter.goal),
+    "check-sat": ((0,), Converter.check),
+    "check-sat-assuming": ((1,), Converter.assumed),
+    "push": ((0, 1), Converter.levels),
+    "pop": ((0, 1), Converter.levels),
+    "reset": ((0,), Converter.emptied),
+    "reset-assertions": ((0,), Converter.emptied),
+    "get-value": ((1,), Converter.values),
+    "get-model": ((0,), Converter.as_it_is),
+    "get-info": ((), Converter.as_it_is),
+    "set-info": ((), Converter.as_it_is),
+    "echo": ((1,), Converter.said),
+    "exit": ((0,), Converter.as_it_is),
 }
-UNKNOWN = frozenset(
-    "sin cos tan asin acos atan atan2 arcsin arccos arctan sinh cosh tanh exp log ln sqrt integral forall exists forall_t "
-    "root-obj to_real to_int is_int div mod select store pi real.pi match par as _".split()
-)
-"""Operators of those languages that this one has not."""
+HINTS = {
+    "maximize": ": write (minimize (- t)); the greatest value of t is the opposite of its least",
+    "get-unsat-core": ": dpoly-smt answers it",
+    "get-unsat-assumptions": ": dpoly-smt answers it",
+}
 
 
-def parts_of(tree: Group) -> Tuple[Tree, ...]:
-    """The terms directly below: of a `let` the bound ones and the body, of an annotation what is annotated."""
-    if not tree.items:
-        raise fault("a term is wanted here", tree)
-    if is_word(tree.items[:1], "let"):
-        pairs = tree.items[1] if len(tree.items) == 3 else None
-        if not isinstance(pairs, Group) or any(not isinstance(it, Group) or len(it.items) != 2 for it in pairs.items):
-            raise fault("a let has bindings and a body", tree)
-        return (*(it.items[1] for it in pairs.items), tree.items[2])  # type: ignore[union-attr]
-    if is_word(tree.items[:1], "!"):
-        return tree.items[1:2]
-    return tree.items[1:]
+def precision_bits(precision: Fraction, tree: Tree) -> Tuple[int, Optional[int]]:
+    """The bits of delta, and of the margin where its default is not above that, which give at least this precision."""
+    if precision <= 0:
+        raise fault("a precision has to be above 0", tree)
+    if precision < FINEST:
+        raise fault("a precision below 2^-30 is finer than the program's", tree)
+    delta = next(bits for bits in range(1, 31) if Fraction(1, 2**bits) <= precision)
+    return delta, delta + 10 if delta >= 20 else None
 
 
-def is_word(items: Tuple[Tree, ...], word: str) -> bool:
-    return len(items) == 1 and isinstance(items[0], Token) and items[0].text == word
+def graph_of(code: Code) -> Optional[Graph]:
+    try:
+        return Graph(code)
+    except TooDear:
+        return None
 
 
-def plain(tree: Tree) -> str:
-    """The tree as text, as it is."""
+def level_count(tree: Group) -> int:
+    """The number of `(push n)` or `(pop n)`; 1 where it is left out."""
+    if len(tree.items) == 1:
+        return 1
+    token = tree.items[1]
+    if not isinstance(token, Token) or token.kind != "number" or not token.text.isdigit() or len(token.text) > 9:
+        raise fault(f"{tree.head} has a number of levels", tree)
+    return int(token.text)
+
+
+def is_literal(tree: Tree) -> bool:
     if isinstance(tree, Token):
-        return tree.text
-    return f"({' '.join(plain(it) for it in tree.items)})"
+        return tree.symbol is not None
+    return len(tree.items) == 2 and tree.head == "not" and isinstance(tree.items[1], Token) and tree.items[1].symbol is not None
 
 
-def fault(what: str, tree: Tree) -> ConversionError:
-    return ConversionError(what, tree.line, tree.column)
+def name_in(tree: Tree) -> str:
+    name = tree.symbol if isinstance(tree, Token) else None
+    if name is None:
+        raise fault("a name is wanted here", tree)
+    return name
+
+
+def sort_in(tree: Tree) -> str:
+    name = tree.symbol if isinstance(tree, Token) else None
+    if name not in SORTS:
+        raise fault(f"the sort {plain(tree)} has no counterpart", tree)
+    return name

@@ -1,26 +1,80 @@
 """Formulas as an SMT-LIB script that the program reads."""
 from __future__ import annotations
 
-from typing import Dict, Iterator, List, Tuple, Union
+from typing import Dict, Iterator, List, Sequence, Set, Tuple, Union
 
-from .terms import Bool, Constant, Expression, Formula, Real, formulas_of
+from .guards import guarded, whole_range
+from .terms import Bool, Constant, Expression, Formula, Real, Term, formulas_of, nodes_below, upward
 
 
 def script_of(*formulas: object) -> str:
     """The script that asks whether all of the formulas can hold, within the bounds of their `Real`s. A subterm that occurs
     more than once is written once, in a `let`. Raises `ValueError` where two constants have one name, but other sorts or
     bounds."""
-    asserted = list(conjuncts(formulas_of(formulas)))
-    constants = constants_of(asserted)
-    lines = ["(set-logic QF_NRA)"]
-    for constant in constants:
-        lines.append(f"(declare-const {constant.symbol} {'Real' if isinstance(constant, Real) else 'Bool'})")
-    for constant in constants:
-        if isinstance(constant, Real):
-            lines += [f"(assert {it})" for it in bounds_of(constant)]
-    taken = {it.symbol for it in constants}
-    lines += [f"(assert {text_of(it, taken)})" for it in asserted]
-    return "\n".join([*lines, "(check-sat)", ""])
+    asserted = guarded(list(conjuncts(formulas_of(formulas))))
+    return "\n".join([*lines_of(asserted, asserted), "(check-sat)", ""])
+
+
+def goal_script_of(goal: Term, *formulas: object) -> Tuple[str, bool]:
+    """The script that asks for the least value of the goal where all of the formulas hold, and whether a constant stands for it
+    there: the program takes no choice, root or quotient as a goal."""
+    asserted, goal_name = list(conjuncts(formulas_of(formulas))), "goal(0)"
+    is_named = any(it.symbol in ("ite", "sqrt", "/") and it.arguments for it in nodes_below([goal]))
+    if is_named:
+        named = Real(goal_name, *whole_range(goal, asserted))
+        asserted, goal = [*asserted, named == goal], named
+    asserted = guarded(asserted)
+    roots = [*asserted, goal]
+    return "\n".join([*lines_of(roots, asserted), f"(minimize {text_of(goal, symbols_of(roots))})", "(check-sat)", ""]), is_named
+
+
+def session_script_of(formulas: Tuple[Formula, ...], questions: Sequence[Tuple[Formula, ...]]) -> str:
+    """The script that asks of each question whether its formulas can hold together with the others."""
+    asserted = guarded(list(conjuncts(formulas)))
+    asked = [guarded(list(conjuncts(it)), asserted, number + 1) for number, it in enumerate(questions)]
+    everything = [*asserted, *(it for each in asked for it in each)]
+    lines = lines_of(everything, asserted)
+    taken = symbols_of(everything)
+    for each in asked:
+        lines += ["(push 1)", *(f"(assert {text_of(it, taken)})" for it in each), "(check-sat)", "(pop 1)"]
+    return "\n".join([*lines, ""])
+
+
+def steps_script_of(steps: Sequence[Tuple[Sequence[Formula], Sequence[Formula]]]) -> str:
+    """A session of checks, each of which has formulas that hold from then on and formulas that are asked of at this one alone. A
+    constant is declared at the first step that has it."""
+    lines, declared, besides = ["(set-logic QF_NRA)"], set(), []
+    for number, (first, second) in enumerate(steps):
+        kept = guarded(list(conjuncts(tuple(first))), besides, 2 * number)
+        besides = [*besides, *kept]
+        asked = guarded(list(conjuncts(tuple(second))), besides, 2 * number + 1)
+        new = [it for it in constants_of([*besides, *asked]) if it.symbol not in declared]
+        declared |= {it.symbol for it in new}
+        lines += declarations_of(new)
+        lines += [f"(assert {text_of(it, declared)})" for it in kept]
+        lines += ["(push 1)", *(f"(assert {text_of(it, declared)})" for it in asked), "(check-sat)", "(pop 1)"]
+    return "\n".join([*lines, ""])
+
+
+def lines_of(roots: Sequence[Expression], asserted: Sequence[Formula]) -> List[str]:
+    """The declarations of all constants of the roots, with their bounds, and the assertions."""
+    taken = symbols_of(roots)
+    lines = ["(set-logic QF_NRA)", *declarations_of(constants_of(roots))]
+    return [*lines, *(f"(assert {text_of(it, taken)})" for it in asserted)]
+
+
+def declarations_of(constants: Sequence[Union[Real, Bool]]) -> List[str]:
+    lines = [f"(declare-const {it.symbol} {'Real' if isinstance(it, Real) else 'Bool'})" for it in constants]
+    return lines + [f"(assert {bound})" for it in constants if isinstance(it, Real) for bound in bounds_of(it)]
+
+
+def names_of(*formulas: object) -> Set[str]:
+    """The names of the constants in the formulas."""
+    return {it.name for it in constants_of(formulas_of(formulas))}
+
+
+def symbols_of(roots: Sequence[Expression]) -> Set[str]:
+    return {it.symbol for it in constants_of(roots)}
 
 
 def conjuncts(formulas: Tuple[Formula, ...]) -> Iterator[Formula]:
@@ -42,10 +96,10 @@ def bounds_of(constant: Real) -> List[str]:
     return [f"(<= {low} {constant.symbol})"] if low is not None else [f"(<= {constant.symbol} {high})"] if high is not None else []
 
 
-def constants_of(formulas: List[Formula]) -> List[Union[Real, Bool]]:
+def constants_of(roots: Sequence[Expression]) -> List[Union[Real, Bool]]:
     """The constants, in the order in which they occur."""
     found: Dict[str, Union[Real, Bool]] = {}
-    for node in nodes_below(formulas):
+    for node in nodes_below(roots):
         if isinstance(node, (Real, Bool)):
             known = found.setdefault(node.symbol, node)
             if known is not node and kind_of(known) != kind_of(node):
@@ -57,21 +111,10 @@ def kind_of(constant: Union[Real, Bool]) -> object:
     return (constant.low, constant.high) if isinstance(constant, Real) else "Bool"
 
 
-def nodes_below(roots: List[Formula]) -> Iterator[Expression]:
-    """Each different node once, in the order of their first occurrence from the left."""
-    seen, left = set(), list(reversed(roots))
-    while left:
-        node = left.pop()
-        if id(node) not in seen:
-            seen.add(id(node))
-            yield node
-            left += reversed(node.arguments)
-
-
-def text_of(root: Expression, taken: set) -> str:
+def text_of(root: Expression, taken: Set[str]) -> str:
     """The expression as text. What occurs more than once is bound in `let`s, those that stand on others inside."""
     uses: Dict[int, int] = {}
-    for node in nodes_below([root]):  # type: ignore[list-item]
+    for node in nodes_below([root]):
         for it in node.arguments:
             uses[id(it)] = uses.get(id(it), 0) + 1
     names: Dict[int, str] = {}
@@ -98,24 +141,9 @@ def text_of(root: Expression, taken: set) -> str:
     return whole
 
 
-def fresh(number: int, taken: set) -> str:
+def fresh(number: int, taken: Set[str]) -> str:
     """A name for the subterm of that number, none of the constants' names."""
     name = f"t{number}"
     while name in taken:
         name += "_"
     return name
-
-
-def upward(root: Expression) -> Iterator[Expression]:
-    """Each different node at or below the root once, after its arguments."""
-    done, left = set(), [(root, False)]
-    while left:
-        node, is_open = left.pop()
-        if id(node) in done:
-            continue
-        if is_open or not node.arguments:
-            done.add(id(node))
-            yield node
-        else:
-            left.append((node, True))
-            left += [(it, False) for it in reversed(node.arguments)]

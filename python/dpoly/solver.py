@@ -6,11 +6,11 @@ import re
 import shutil
 import subprocess
 import tempfile
-from dataclasses import dataclass
+from dataclasses import dataclass, field, replace
 from fractions import Fraction
-from typing import Dict, List, Optional, Tuple, Union
+from typing import Dict, List, Optional, Sequence, Set, Tuple, Union
 
-from .script import script_of
+from .script import names_of, script_of
 
 Value = Union[Fraction, bool]
 Box = Dict[str, Union[Tuple[Fraction, Fraction], bool]]
@@ -53,14 +53,27 @@ class ProgramError(DpolyError):
         super().__init__(text)
 
 
+class OutOfTime(ProgramError):
+    """A program took longer than `seconds`."""
+
+
+@dataclass(frozen=True)
+class Question:
+    """What was asked: the script, and the bound that was given to what has none."""
+
+    script: bytes
+    bound: Optional[int] = None
+
+
 @dataclass(frozen=True)
 class Unsat:
     """No point within the bounds satisfies the question, even with each comparison loosened by `margin`. `is_confirmed`:
     whether the checker confirmed the certificate."""
 
     margin: Fraction
-    certificate: bytes
+    certificate: bytes = field(repr=False)
     is_confirmed: bool
+    question: Optional[Question] = field(default=None, repr=False, compare=False)
 
 
 @dataclass(frozen=True)
@@ -70,8 +83,9 @@ class DeltaSat:
 
     delta: Fraction
     point: Dict[str, Value]
-    certificate: bytes
+    certificate: bytes = field(repr=False)
     is_confirmed: bool
+    question: Optional[Question] = field(default=None, repr=False, compare=False)
 
 
 @dataclass(frozen=True)
@@ -80,12 +94,13 @@ class Unknown:
     decided, for the comparison number `atom`. `open_boxes` counts the boxes that are left, where the checker counted them."""
 
     cause: str
-    certificate: bytes
+    certificate: bytes = field(repr=False)
     is_confirmed: bool
     budget: Optional[int] = None
     atom: Optional[int] = None
     box: Optional[Box] = None
     open_boxes: Optional[int] = None
+    question: Optional[Question] = field(default=None, repr=False, compare=False)
 
 
 Answer = Union[Unsat, DeltaSat, Unknown]
@@ -122,7 +137,7 @@ def solve(
     least_bits: Optional[int] = None,
     budget: Optional[int] = None,
     bound: Optional[int] = None,
-    workers: Optional[int] = None,
+    workers: Union[int, str, None] = None,
     check: bool = True,
     seconds: Optional[float] = None,
     programs: Optional[Programs] = None,
@@ -131,7 +146,8 @@ def solve(
     has `dpoly-check` confirm the answer, and raises `CertificateError` where it does not; `seconds` bounds each program's
     time. Raises a `DpolyError` where there is no answer, `ValueError` for constants that do not fit together."""
     options = options_of(margin_bits, delta_bits, least_bits, budget, bound, workers)
-    return run(script_of(*formulas).encode(), options, bound, check, seconds, programs or find_programs())
+    answer = run(script_of(*formulas).encode(), options, bound, check, seconds, programs or find_programs())
+    return of_constants(answer, names_of(*formulas))
 
 
 def solve_script(
@@ -142,7 +158,7 @@ def solve_script(
     least_bits: Optional[int] = None,
     budget: Optional[int] = None,
     bound: Optional[int] = None,
-    workers: Optional[int] = None,
+    workers: Union[int, str, None] = None,
     check: bool = True,
     seconds: Optional[float] = None,
     programs: Optional[Programs] = None,
@@ -153,32 +169,64 @@ def solve_script(
     return run(text, options, bound, check, seconds, programs or find_programs())
 
 
-def options_of(*values: Optional[int]) -> List[str]:
+def of_constants(answer: Answer, names: Set[str]) -> Answer:
+    """The answer, with the values of these constants alone: the program has others besides, for roots and quotients."""
+    if isinstance(answer, DeltaSat):
+        return replace(answer, point={name: it for name, it in answer.point.items() if name in names})
+    if isinstance(answer, Unknown) and answer.box is not None:
+        return replace(answer, box={name: it for name, it in answer.box.items() if name in names})
+    return answer
+
+
+def options_of(*values: Union[int, str, None]) -> List[str]:
     words = []
     for name, value in zip(("margin-bits", "delta-bits", "least-bits", "budget", "bound", "workers"), values):
         if value is not None:
-            if isinstance(value, bool) or not isinstance(value, int):
+            if isinstance(value, bool) or not isinstance(value, int) and (name, value) != ("workers", "auto"):
                 raise TypeError(f"{name.replace('-', '_')} has to be a whole number, and not {value!r}")
             words += [f"--{name}", str(value)]
     return words
 
 
 def run(script: bytes, options: List[str], bound: Optional[int], check: bool, seconds: Optional[float], programs: Programs) -> Answer:
-    """Solves the script in a folder of its own, and has the certificate checked."""
+    """Solves the script, and has the certificate checked."""
+    question = Question(script, bound)
+    said, certificate, confirmed = run_command("solve", question, options, check, seconds, programs)
+    if certificate.startswith(b"dpoly 3\n"):
+        raise DpolyError("the script has several checks: solve_each answers them")
+    return answer_of(said, certificate, confirmed, question)
+
+
+def run_command(
+    command: str, question: Question, options: List[str], check: bool, seconds: Optional[float], programs: Programs, read: Sequence[bytes] = ()
+) -> Tuple[bytes, bytes, Optional[bytes]]:
+    """Runs a command of the program in a folder of its own: what it said, its certificate, and what the checker said of that, if
+    it was asked. `read` are certificates that the command reads."""
     with tempfile.TemporaryDirectory(prefix="dpoly-") as folder:
-        question, kept = os.path.join(folder, "question.smt2"), os.path.join(folder, "certificate")
-        with open(question, "wb") as file:
-            file.write(script)
-        said = call([programs.solver, "solve", *options, question, kept], script, seconds)
-        with open(kept, "rb") as file:
+        paths = [os.path.join(folder, it) for it in ("question.smt2", "certificate", *(f"read{at}" for at in range(len(read))))]
+        for path, text in zip((paths[0], *paths[2:]), (question.script, *read)):
+            with open(path, "wb") as file:
+                file.write(text)
+        files = [paths[0], *paths[2:], paths[1]] if command != "join" else [*paths[:2], *paths[2:]]
+        said = call([programs.solver, command, *options, *files], question.script, seconds)
+        with open(paths[1], "rb") as file:
             certificate = file.read()
-        if certificate.startswith(b"dpoly 3\n"):
-            raise DpolyError("the script has several checks, and solve_script answers one")
-        confirmed = None
-        if check:
-            words = ["--bound", str(bound)] if bound is not None else []
-            confirmed = call([programs.checker, *words, question, kept], script, seconds)
-    return answer_of(said, certificate, confirmed)
+        confirmed = call([programs.checker, *bound_words(question), *paths[:2]], question.script, seconds) if check else None
+    return said, certificate, confirmed
+
+
+def check_certificate(question: Question, certificate: bytes, seconds: Optional[float] = None, programs: Optional[Programs] = None) -> bytes:
+    """What `dpoly-check` says of a certificate. Raises `CertificateError` where it refuses it."""
+    with tempfile.TemporaryDirectory(prefix="dpoly-") as folder:
+        paths = [os.path.join(folder, it) for it in ("question.smt2", "certificate")]
+        for path, text in zip(paths, (question.script, certificate)):
+            with open(path, "wb") as file:
+                file.write(text)
+        return call([(programs or find_programs()).checker, *bound_words(question), *paths], question.script, seconds)
+
+
+def bound_words(question: Question) -> List[str]:
+    return ["--bound", str(question.bound)] if question.bound is not None else []
 
 
 def call(words: List[str], script: bytes, seconds: Optional[float]) -> bytes:
@@ -186,7 +234,7 @@ def call(words: List[str], script: bytes, seconds: Optional[float]) -> bytes:
     try:
         done = subprocess.run(words, stdin=subprocess.DEVNULL, stdout=subprocess.PIPE, stderr=subprocess.PIPE, timeout=seconds)
     except subprocess.TimeoutExpired:
-        raise ProgramError(f"{os.path.basename(words[0])} took more than {seconds} seconds") from None
+        raise OutOfTime(f"{os.path.basename(words[0])} took more than {seconds} seconds") from None
     except OSError as error:
         raise ProgramError(f"{words[0]} does not start: {error.strerror}") from None
     said, status = done.stdout, done.returncode
@@ -220,27 +268,40 @@ def script_error(said: bytes, script: bytes) -> DpolyError:
     return ScriptError(int(found[1]), found[2], detail, line, column, source)
 
 
-def answer_of(said: bytes, certificate: bytes, confirmed: Optional[bytes]) -> Answer:
+def answer_of(said: bytes, certificate: bytes, confirmed: Optional[bytes], question: Question) -> Answer:
     """What the program answered, where the checker's text, if it was asked, says the same."""
-    text = said.decode("utf-8", "surrogateescape")
+    answer, rest = first_answer(said.decode("utf-8", "surrogateescape"), certificate, confirmed, question)
+    if rest:
+        raise ProgramError(f"an answer that this package does not know: {printable(rest[:80])}", 0)
+    return answer
+
+
+def first_answer(text: str, certificate: bytes, confirmed: Optional[bytes], question: Question) -> Tuple[Answer, str]:
+    """The first answer of a text, and what stands behind it; `confirmed` is what the checker said of this one."""
     first, _, rest = text.partition("\n")
     is_confirmed = confirmed is not None
     if first == "unsat":
-        margin = dyadic(rest.split("\n", 1)[0].partition(" ")[2])
-        expect(confirmed, b"confirmed unsat\n" + rest.encode())
-        return Unsat(margin, certificate, is_confirmed)
+        margin, _, rest = rest.partition("\n")
+        expect(confirmed, f"confirmed unsat\n{margin}\n".encode())
+        return Unsat(dyadic(margin.partition(" ")[2]), certificate, is_confirmed, question), rest
     if first == "delta-sat":
         bits, _, values = rest.partition("\n")
         expect(confirmed, f"confirmed delta-sat\n{bits}\n".encode())
-        point = {name: value_of(it) for name, it in named_lines(values)}
-        return DeltaSat(dyadic(bits.partition(" ")[2]), point, certificate, is_confirmed)
+        lines, rest = named_lines(values)
+        point: Dict[str, Value] = {}
+        for name, it in lines:  # (those of the script come first; a root may have the name of one of them)
+            point.setdefault(name, value_of(it))
+        return DeltaSat(dyadic(bits.partition(" ")[2]), point, certificate, is_confirmed, question), rest
     left = open_count(confirmed)
     if first.startswith("unknown budget "):
-        return Unknown("budget", certificate, is_confirmed, budget=int(first.rpartition(" ")[2]), open_boxes=left)
+        budget = int(first.rpartition(" ")[2])
+        return Unknown("budget", certificate, is_confirmed, budget=budget, open_boxes=left, question=question), rest
     if first == "unknown width":
         atom, _, sides = rest.partition("\n")
-        box = {name: side_of(it) for name, it in named_lines(sides)}
-        return Unknown("width", certificate, is_confirmed, atom=int(atom.partition(" ")[2]), box=box, open_boxes=left)
+        lines, rest = named_lines(sides)
+        box = {name: side_of(it) for name, it in lines}
+        number = int(atom.partition(" ")[2])
+        return Unknown("width", certificate, is_confirmed, atom=number, box=box, open_boxes=left, question=question), rest
     raise ProgramError(f"an answer that this package does not know: {printable(first)}", 0)
 
 
@@ -258,18 +319,20 @@ def open_count(confirmed: Optional[bytes]) -> Optional[int]:
     return int(found[1])
 
 
-def named_lines(text: str) -> List[Tuple[str, str]]:
-    """The lines `NAME VALUE`. A quoted name may hold line feeds and spaces, but no bar."""
+NUMBER = r"(?:-?[0-9]+b-?[0-9]+|0)"
+NAMED_LINE = re.compile(rf"(?:\|([^|]*)\||([^\s|]+)) (true|false|{NUMBER}(?: {NUMBER})?)\n")
+
+
+def named_lines(text: str) -> Tuple[List[Tuple[str, str]], str]:
+    """The lines `NAME VALUE` that the text begins with, and the rest. A quoted name may hold line feeds and spaces, but no bar."""
     found, at = [], 0
-    for it in re.finditer(r"(?:\|([^|]*)\||([^\s|]+)) ([^\n]*)\n", text):
-        if it.start() != at:
-            break
+    while True:
+        it = NAMED_LINE.match(text, at)
+        if it is None:
+            return found, text[at:]
         at = it.end()
         name = it[1] if it[1] is not None else it[2]
         found.append((name.encode("utf-8", "surrogateescape").decode("utf-8", "replace"), it[3]))
-    if at != len(text):
-        raise ProgramError(f"a value that cannot be read: {printable(text[at:at + 80])}", 0)
-    return found
 
 
 def dyadic(text: str) -> Fraction:

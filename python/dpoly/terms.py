@@ -4,7 +4,7 @@ from __future__ import annotations
 import re
 from decimal import Decimal
 from fractions import Fraction
-from typing import Iterable, Optional, Tuple, Union
+from typing import Dict, Iterable, Iterator, List, Mapping, Optional, Sequence, Set, Tuple, Union
 
 Number = Union[int, float, Decimal, Fraction]
 """What stands for a number: each is taken at its exact value, a float too."""
@@ -39,6 +39,11 @@ def symbol_of(name: str) -> str:
         raise ValueError(f"{name!r} cannot be spelled in SMT-LIB: a name is not empty and holds no bar and no backslash")
     if name in THEORY:
         raise ValueError(f"{name!r} is a symbol of SMT-LIB's theories, and no name of a constant")
+    return spelled(name)
+
+
+def spelled(name: str) -> str:
+    """The name, between bars where SMT-LIB asks for them."""
     return name if SIMPLE_SYMBOL.fullmatch(name) and name not in RESERVED else f"|{name}|"
 
 
@@ -72,7 +77,7 @@ class Expression:
 
 
 class Term(Expression):
-    """A polynomial term over Real constants."""
+    """A term over Real constants: polynomials, choices, square roots and quotients of such."""
 
     __slots__ = ()
 
@@ -95,13 +100,16 @@ class Term(Expression):
         return joined("*", term_of(other), self)
 
     def __truediv__(self, other: "Operand") -> "Term":
-        """A quotient by a number. The language divides by constants alone, so a divisor that is a term is a `TypeError`."""
+        """A quotient. Where the divisor is a term, it has to keep away from 0 within the bounds of its constants."""
         divisor = term_of(other)
         if not isinstance(divisor, Constant):
-            raise TypeError("a divisor has to be a number: multiply by the other side, or name the quotient by a Real of its own")
+            return Operation("/", [self, divisor])
         if divisor.value == 0:
             raise ZeroDivisionError("division of a term by zero")
         return joined("*", self, Constant(1 / divisor.value))
+
+    def __rtruediv__(self, other: "Operand") -> "Term":
+        return term_of(other) / self
 
     def __neg__(self) -> "Term":
         return Operation("-", [self])
@@ -112,18 +120,21 @@ class Term(Expression):
     def __abs__(self) -> "Term":
         return choice_of(self >= 0, self, -self)
 
-    def __pow__(self, exponent: int) -> "Term":
-        """A whole power, as products of squares that stand once each."""
-        if isinstance(exponent, bool) or not isinstance(exponent, int) or exponent < 0:
-            raise TypeError("an exponent has to be a whole number that is not negative")
-        if exponent == 0:
-            return Constant(1)
-        power: Term = self
-        for bit in bin(exponent)[3:]:
+    def __pow__(self, exponent: Number) -> "Term":
+        """A power: a whole one as products of squares that stand once each, a negative one as a quotient, 1/2 as a root."""
+        if isinstance(exponent, bool) or not isinstance(exponent, (int, float, Decimal, Fraction)):
+            raise TypeError("an exponent has to be a whole number, or 1/2")
+        if exponent == Fraction(1, 2):
+            return Sqrt(self)
+        if exponent != int(exponent):
+            raise TypeError("an exponent has to be a whole number, or 1/2")
+        whole = abs(int(exponent))
+        power: Term = self if whole else Constant(1)
+        for bit in bin(whole)[3:]:
             power = Operation("*", [power, power])
             if bit == "1":
                 power = Operation("*", [power, self])
-        return power
+        return 1 / power if exponent < 0 else power
 
     def __le__(self, other: "Operand") -> "Formula":
         return Formula("<=", [self, term_of(other)])
@@ -304,8 +315,72 @@ def choice_of(condition: Proposition, then: Operand, otherwise: Operand) -> Term
     return Operation("ite", [formula_of(condition), term_of(then), term_of(otherwise)])
 
 
+def Min(*terms: Operand) -> Term:
+    """The least of the terms, as choices."""
+    return nearest("<=", terms)
+
+
+def Max(*terms: Operand) -> Term:
+    """The greatest of the terms, as choices."""
+    return nearest(">=", terms)
+
+
+def nearest(symbol: str, terms: Tuple[Operand, ...]) -> Term:
+    if not terms:
+        raise TypeError("the least or greatest of no terms is asked for")
+    found = term_of(terms[0])
+    for it in map(term_of, terms[1:]):
+        found = choice_of(Formula(symbol, [found, it]), found, it)
+    return found
+
+
+def Sqrt(term: Operand) -> Term:
+    """The square root that is not negative. Of a negative number there is none: no point has it, unless it stands under a condition
+    (in an `If`, an `Or`): there it counts as 0."""
+    return Operation("sqrt", [term_of(term)])
+
+
 def If(condition: Proposition, then: object, otherwise: object) -> Expression:
     """`then` where the condition holds, else `otherwise`: two terms or numbers, or two formulas."""
     if isinstance(then, (Formula, bool)) or isinstance(otherwise, (Formula, bool)):
         return Formula("ite", [formula_of(condition), formula_of(then), formula_of(otherwise)])  # type: ignore[arg-type]
     return choice_of(condition, then, otherwise)  # type: ignore[arg-type]
+
+
+def replaced(root: Expression, values: Mapping[str, Expression]) -> Expression:
+    """The expression with others in the place of constants, by their names."""
+    made: Dict[int, Expression] = {}
+    for node in upward(root):
+        if isinstance(node, (Real, Bool)):
+            made[id(node)] = values.get(node.name, node)
+            continue
+        arguments = [made[id(it)] for it in node.arguments]
+        is_same = all(a is b for a, b in zip(arguments, node.arguments))
+        made[id(node)] = node if is_same else (Formula if isinstance(node, Formula) else Operation)(node.symbol, arguments)
+    return made[id(root)]
+
+
+def nodes_below(roots: Sequence[Expression]) -> Iterator[Expression]:
+    """Each different node once, in the order of their first occurrence from the left."""
+    seen, left = set(), list(reversed(roots))
+    while left:
+        node = left.pop()
+        if id(node) not in seen:
+            seen.add(id(node))
+            yield node
+            left += reversed(node.arguments)
+
+
+def upward(root: Expression) -> Iterator[Expression]:
+    """Each different node at or below the root once, after its arguments."""
+    done, left = set(), [(root, False)]
+    while left:
+        node, is_open = left.pop()
+        if id(node) in done:
+            continue
+        if is_open or not node.arguments:
+            done.add(id(node))
+            yield node
+        else:
+            left.append((node, True))
+            left += [(it, False) for it in reversed(node.arguments)]

@@ -3,7 +3,7 @@ import unittest
 from decimal import Decimal
 from fractions import Fraction
 
-from dpoly import And, Bool, Distinct, If, Implies, Not, Or, Real, Xor, script_of
+from dpoly import And, Bool, Distinct, If, Implies, Max, Min, Not, Or, Real, Sqrt, Xor, script_of
 
 X = Real("x", 0, 10)
 Y = Real("y", -1, 1)
@@ -18,6 +18,17 @@ ROWS = [
     (X**0 != 2, "(distinct 1 2)"),
     (X**4 >= 1, "(let ((t0 (* x x))) (>= (* t0 t0) 1))"),
     (abs(X - Y) <= 0.5, "(let ((t0 (+ x (- y)))) (<= (ite (>= t0 0) t0 (- t0)) (/ 1 2)))"),
+    (X / Y <= 1, "(<= (/ x y) 1)"),
+    (1 / (X * Y) <= 1, "(<= (/ 1 (* x y)) 1)"),
+    (X**-2 <= 1, "(<= (/ 1 (* x x)) 1)"),
+    (Sqrt(X) + X**0.5 <= 1, "(<= (+ (sqrt x) (sqrt x)) 1)"),
+    (Max(X, Y, 1) <= 1, "(let ((t0 (ite (>= x y) x y))) (<= (ite (>= t0 1) t0 1) 1))"),
+    (Min(X, 2) <= 1, "(<= (ite (<= x 2) x 2) 1)"),
+    # a root under a condition: y may be negative, x is not
+    (Or(P, Sqrt(X) <= 1), "(or p (<= (sqrt x) 1))"),
+    (Or(P, Sqrt(Y) <= 1), "(or p (<= |root(0.0)| 1))"),
+    (And(Sqrt(Y) <= 2, Or(P, Sqrt(Y) <= 1)), "(or p (<= (sqrt y) 1))"),
+    (If(Y >= 0, Sqrt(Y), Sqrt(Sqrt(Y) + 1)) <= 1, "(<= (ite (>= y 0) |root(0.0)| (sqrt (+ |root(0.0)| 1))) 1)"),
     (X == Decimal("0.1"), "(= x (/ 1 10))"),
     (X == Fraction(-2, 6), "(= x (- (/ 1 3)))"),
     (X == 0.1, "(= x (/ 3602879701896397 36028797018963968))"),
@@ -54,6 +65,13 @@ class Terms(unittest.TestCase):
         )
         self.assertIn("(assert (<= z 3))", script_of(Real("z", None, 3) >= 1))
 
+    def test_a_root_under_a_condition_has_its_guard(self):
+        text = script_of(Or(P, Sqrt(X + 5 * Y) <= 1))
+        self.assertIn("(assert (<= 0 |root(0.0)| 4))\n", text)
+        self.assertIn("(assert (let ((t0 (+ x (* 5 y)))) (= (* |root(0.0)| |root(0.0)|) (ite (>= t0 0) t0 0))))\n", text)
+        with self.assertRaises(ValueError):
+            script_of(Or(P, Sqrt(Real("free")) <= 1))
+
     def test_names_are_spelled(self):
         for name, text in [("a b", "|a b|"), ("let", "|let|"), ("2x", "|2x|"), ("x'", "|x'|"), ("x_1", "x_1"), ("é", "|é|")]:
             self.assertIn(f"(declare-const {text} Real)", script_of(Real(name, 0, 1) <= 1))
@@ -85,9 +103,10 @@ class Terms(unittest.TestCase):
         for wrong in [
             lambda: bool(X <= 1),
             lambda: 0 <= X <= 1,
-            lambda: X / Y,
-            lambda: X**-1,
-            lambda: X**0.5,
+            lambda: X**0.25,
+            lambda: X**True,
+            lambda: Sqrt(P),
+            lambda: Max(),
             lambda: X + "1",
             lambda: X + True,
             lambda: And(X <= 1, "p"),

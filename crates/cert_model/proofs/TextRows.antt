@@ -52,7 +52,7 @@ demo : demo_text 175 5 ≡ codes "script 175 atoms 5 answer unsat\n"
 unfolding Rattle.std.specs.Fmt.digits
 demo = refl
 
-names : map name_text (codes "x" ∷ codes "let" ∷ codes "a b" ∷ codes "1x" ∷ [] ∷ codes "<=" ∷ []) ≡ (codes "x" ∷ codes "|let|" ∷ codes "|a b|" ∷ codes "|1x|" ∷ codes "||" ∷ codes "<=" ∷ [])
+names : map name_text (codes "x" ∷ codes "let" ∷ codes "a b" ∷ codes "1x" ∷ [] ∷ codes "<=" ∷ codes "sqrt(0)" ∷ codes "|sqrt(0)" ∷ []) ≡ (codes "x" ∷ codes "|let|" ∷ codes "|a b|" ∷ codes "|1x|" ∷ codes "||" ∷ codes "<=" ∷ codes "|sqrt(0)|" ∷ codes "sqrt(0)" ∷ [])
 unfolding Rattle.std.specs.Fmt.digits
 names = refl
 

@@ -1,5 +1,5 @@
 -- The texts of the answers.
-use Rattle.std.specs.Prelude.{ℕ, List, [], ◌∷◌, ◌++◌, length, Bool, true, false, cond, ◌||◌, Option, Some, None, codes, decimal}
+use Rattle.std.specs.Prelude.{ℕ, List, [], ◌∷◌, ◌++◌, length, Bool, true, false, cond, nat_eq, ◌||◌, Option, Some, None, codes, decimal}
 use Rattle.dyadic.specs.Rounding.{Ext, finite}
 use Rattle.dyadic.specs.NumberText.{number_spelling}
 use Rattle.cover_line.specs.Words.{word_text}
@@ -19,8 +19,14 @@ text_line text = text ++ (10 ∷ [])
 -- ---- names (SMT-LIB 2.6, section 3.1)
 
 -- in bars, where it is no simple symbol or reserved
+abbrev pub symbol_text : List ℕ → List ℕ
+symbol_text name = cond (is_simple_symbol name) name (124 ∷ (name ++ (124 ∷ [])))
+
+-- The name of a constant that stands for a root or a quotient has a bar at its head, which no name of a script has. It is printed without it, so that no
+-- symbol is printed as it is.
 abbrev pub name_text : List ℕ → List ℕ
-name_text name = cond (is_simple_symbol name) name (124 ∷ (name ++ (124 ∷ [])))
+name_text [] = symbol_text []
+name_text (b ∷ bs) = cond (nat_eq b 124) bs (symbol_text (b ∷ bs))
 
 -- ---- axes
 

@@ -8,7 +8,6 @@ pub mod Faulty
 pub mod GoalVerdicts
 pub mod Headline
 pub mod Joins
-pub mod Named
 pub mod Reading
 pub mod Resumes
 pub mod RunBoth

@@ -17,7 +17,7 @@ use Rattle.script_reading.specs.Reader.{commands_of, HasProblem, IsBuilt}
 use Rattle.check_run.specs.declared.status.Status.TheVariants.{Answered, CertRefused}
 use Rattle.check_run.specs.Course.{Course, appended}
 use Rattle.check_run.specs.Can.{CanBy, OfProblem}
-use Rattle.check_run.specs.Resumed.{CanResume, CanResumeBy, GoesOn, header_bound, share_of, share_text, trees_left}
+use Rattle.check_run.specs.Resumed.{CanResume, CanResumeBy, GoesOn, share_of, share_text, trees_left}
 use Rattle.check_run.specs.Run.{IsShown}
 use Rattle.check_run.specs.Headline.{IsWritten, IsResumed, IsTrueDeltaSat, IsTrueRefusal, IsTrueUnsat, IsTrueValue, delta_sat_word, unsat_word}
 use Rattle.check_run.proofs.Apart.{apart}
@@ -80,8 +80,8 @@ value-so bound script p cert s (at_point space) built accepts = delta-so bound s
 value-so bound script p cert s (left_open []) built accepts = unsat_is bound (commands_of bound script) p built.whole built.problem cert s accepts
 value-so bound script p cert s (left_open (x ∷ left)) built accepts = tt
 
-resumed-by : (words : Resume) (script cert_in : List ℕ) (old new : Sight) (p : Problem) (tail : Course) (v : Verdict) → HasProblem (header_bound cert_in) p script → verdict p (header_bound cert_in) cert_in ≡ v →
-    CanResumeBy v p (header_bound cert_in) words cert_in tail → tail.status ≡ Answered → new.answer ≡ appended old.answer tail.answer → new.cert_out ≡ appended old.cert_out tail.cert → IsResumed words script cert_in old new
+resumed-by : (words : Resume) (script cert_in : List ℕ) (old new : Sight) (p : Problem) (tail : Course) (v : Verdict) → HasProblem words.bound p script → verdict p words.bound cert_in ≡ v →
+    CanResumeBy v p words.bound words cert_in tail → tail.status ≡ Answered → new.answer ≡ appended old.answer tail.answer → new.cert_out ≡ appended old.cert_out tail.cert → IsResumed words script cert_in old new
 resumed-by words script cert_in old new p tail (accepted s w) has e can status wrote cert = record {
   problem = p;
   has = has;
@@ -93,20 +93,20 @@ resumed-by words script cert_in old new p tail (accepted s w) has e can status w
   written = cert ∙ ap (λ (c : Course). appended old.cert_out c.cert) can.3;
   more = can.2;
   answer = wrote ∙ ap (λ (c : Course). appended old.answer c.answer) can.3;
-  say = value-so (header_bound cert_in) script p can.0 (in_newest 1 s) can.2.value has.built can.2.accepted;
+  say = value-so words.bound script p can.0 (in_newest 1 s) can.2.value has.built can.2.accepted;
 }
 resumed-by words script cert_in old new p tail (refused f n) has e can status wrote cert = absurd (certificate-refused-not tail.status (ap (λ (c : Course). c.status) can) status)
 
-resumed-of : (words : Resume) (script cert_in : List ℕ) (old new : Sight) (f : Option ScriptFault) (tail : Course) → script_fault (header_bound cert_in) script ≡ f →
-    CanBy f (OfProblem (header_bound cert_in) script (λ p. CanResume p (header_bound cert_in) words cert_in)) tail → tail.status ≡ Answered → new.answer ≡ appended old.answer tail.answer → new.cert_out ≡ appended old.cert_out tail.cert →
+resumed-of : (words : Resume) (script cert_in : List ℕ) (old new : Sight) (f : Option ScriptFault) (tail : Course) → script_fault words.bound script ≡ f →
+    CanBy f (OfProblem words.bound script (λ p. CanResume p words.bound words cert_in)) tail → tail.status ≡ Answered → new.answer ≡ appended old.answer tail.answer → new.cert_out ≡ appended old.cert_out tail.cert →
     IsResumed words script cert_in old new
 resumed-of words script cert_in old new (Some f) tail e can status wrote cert = absurd (refused-not tail.status (ap (λ (c : Course). c.status) can) status)
 resumed-of words script cert_in old new None tail e can status wrote cert =
-    resumed-by words script cert_in old new can.0 tail (verdict can.0 (header_bound cert_in) cert_in) (record { clean = e; built = can.1 }) refl can.2 status wrote cert
+    resumed-by words script cert_in old new can.0 tail (verdict can.0 words.bound cert_in) (record { clean = e; built = can.1 }) refl can.2 status wrote cert
 
 pub resume-so : (words : Resume) (script cert_in : List ℕ) (parts : List (List ℕ)) (old new : Sight) → IsShown (Some (resume words)) script cert_in parts old new Answered → IsResumed words script cert_in old new
 resume-so words script cert_in parts old new (course, can, status, went) =
-    resumed-of words script cert_in old new (script_fault (header_bound cert_in) script) can.0 refl can.1 (sym (ap (λ (c : Course). c.status) can.2) ∙ status)
+    resumed-of words script cert_in old new (script_fault words.bound script) can.0 refl can.1 (sym (ap (λ (c : Course). c.status) can.2) ∙ status)
     (went.answer ∙ ap (λ (c : Course). appended old.answer c.answer) can.2) (went.cert ∙ ap (λ (c : Course). appended old.cert_out c.cert) can.2)
 
 -- ---- what is answered
@@ -114,7 +114,7 @@ resume-so words script cert_in parts old new (course, can, status, went) =
 pub resume-unsat : (words : Resume) (script cert_in : List ℕ) (parts : List (List ℕ)) (old new : Sight) → IsShown (Some (resume words)) script cert_in parts old new Answered → IsTrueUnsat (Some (resume words)) script cert_in parts old new
 resume-unsat words script cert_in parts old new shows rest wrote =
     let so = resume-so words script cert_in parts old new shows in
-    let b : Option ℕ = header_bound cert_in in
+    let b : Option ℕ = words.bound in
     let s : Loosenings = in_newest 1 so.loosenings in
     let text : unsat_word ++ rest ≡ so.text = written-is old.answer new.answer (unsat_word ++ rest) so.text wrote so.answer in
     let u = more-unsat so.problem b words cert_in so.cert so.loosenings so.read so.more.value so.text rest so.more.goes_on text in
@@ -134,7 +134,7 @@ resume-unsat words script cert_in parts old new shows rest wrote =
 pub resume-delta : (words : Resume) (script cert_in : List ℕ) (parts : List (List ℕ)) (old new : Sight) → IsShown (Some (resume words)) script cert_in parts old new Answered → IsTrueDeltaSat (Some (resume words)) script cert_in parts old new
 resume-delta words script cert_in parts old new shows rest wrote =
     let so = resume-so words script cert_in parts old new shows in
-    let b : Option ℕ = header_bound cert_in in
+    let b : Option ℕ = words.bound in
     let s : Loosenings = in_newest 1 so.loosenings in
     let text : delta_sat_word ++ rest ≡ so.text = written-is old.answer new.answer (delta_sat_word ++ rest) so.text wrote so.answer in
     let u = more-delta-sat so.problem b words cert_in so.cert so.loosenings so.read so.more.value so.text rest so.more.goes_on text in (
@@ -148,22 +148,22 @@ resume-delta words script cert_in parts old new shows rest wrote =
 
 -- ---- what is refused
 
-refused-by : (words : Resume) (script cert_in : List ℕ) (parts : List (List ℕ)) (old new : Sight) (p : Problem) (tail : Course) (v : Verdict) → HasProblem (header_bound cert_in) p script → verdict p (header_bound cert_in) cert_in ≡ v →
-    CanResumeBy v p (header_bound cert_in) words cert_in tail → tail.status ≡ CertRefused → new.answer ≡ appended old.answer tail.answer → new.cert_out ≡ appended old.cert_out tail.cert → IsTrueRefusal (Some (resume words)) script cert_in parts old new
+refused-by : (words : Resume) (script cert_in : List ℕ) (parts : List (List ℕ)) (old new : Sight) (p : Problem) (tail : Course) (v : Verdict) → HasProblem words.bound p script → verdict p words.bound cert_in ≡ v →
+    CanResumeBy v p words.bound words cert_in tail → tail.status ≡ CertRefused → new.answer ≡ appended old.answer tail.answer → new.cert_out ≡ appended old.cert_out tail.cert → IsTrueRefusal (Some (resume words)) script cert_in parts old new
 refused-by words script cert_in parts old new p tail (accepted s w) has e can status wrote none = absurd (answered-not tail.status (ap (λ (c : Course). c.status) can.3) status)
 refused-by words script cert_in parts old new p tail (refused f n) has e can status wrote none = (
   record { problem = p; has = has; fault = f; line = n; refuses = e; written = wrote ∙ ap (λ (c : Course). appended old.answer c.answer) can },
   none ∙ ap (λ (c : Course). appended old.cert_out c.cert) can,
 )
 
-refused-of : (words : Resume) (script cert_in : List ℕ) (parts : List (List ℕ)) (old new : Sight) (f : Option ScriptFault) (tail : Course) → script_fault (header_bound cert_in) script ≡ f →
-    CanBy f (OfProblem (header_bound cert_in) script (λ p. CanResume p (header_bound cert_in) words cert_in)) tail → tail.status ≡ CertRefused → new.answer ≡ appended old.answer tail.answer → new.cert_out ≡ appended old.cert_out tail.cert →
+refused-of : (words : Resume) (script cert_in : List ℕ) (parts : List (List ℕ)) (old new : Sight) (f : Option ScriptFault) (tail : Course) → script_fault words.bound script ≡ f →
+    CanBy f (OfProblem words.bound script (λ p. CanResume p words.bound words cert_in)) tail → tail.status ≡ CertRefused → new.answer ≡ appended old.answer tail.answer → new.cert_out ≡ appended old.cert_out tail.cert →
     IsTrueRefusal (Some (resume words)) script cert_in parts old new
 refused-of words script cert_in parts old new (Some f) tail e can status wrote none = absurd (script-refused-not tail.status (ap (λ (c : Course). c.status) can) status)
 refused-of words script cert_in parts old new None tail e can status wrote none =
-    refused-by words script cert_in parts old new can.0 tail (verdict can.0 (header_bound cert_in) cert_in) (record { clean = e; built = can.1 }) refl can.2 status wrote none
+    refused-by words script cert_in parts old new can.0 tail (verdict can.0 words.bound cert_in) (record { clean = e; built = can.1 }) refl can.2 status wrote none
 
 pub resume-refused : (words : Resume) (script cert_in : List ℕ) (parts : List (List ℕ)) (old new : Sight) → IsShown (Some (resume words)) script cert_in parts old new CertRefused → IsTrueRefusal (Some (resume words)) script cert_in parts old new
 resume-refused words script cert_in parts old new (course, can, status, went) =
-    refused-of words script cert_in parts old new (script_fault (header_bound cert_in) script) can.0 refl can.1 (sym (ap (λ (c : Course). c.status) can.2) ∙ status)
+    refused-of words script cert_in parts old new (script_fault words.bound script) can.0 refl can.1 (sym (ap (λ (c : Course). c.status) can.2) ∙ status)
     (went.answer ∙ ap (λ (c : Course). appended old.answer c.answer) can.2) (went.cert ∙ ap (λ (c : Course). appended old.cert_out c.cert) can.2)

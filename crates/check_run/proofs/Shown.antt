@@ -18,8 +18,8 @@ use Rattle.check_run.specs.declared.status.Status.TheVariants.{Answered, CertRef
 use Rattle.check_run.specs.Course.{Course, Went, Ends, at_its_end, out_failed, no_memory, RunEnds, on_course, in_failed, draft_failed, no_memory_yet}
 use Rattle.check_run.specs.Can.{CanSolve, CanCheck, CanUpgrade, CanUpgradeBy, CanDemo, CanPlan, CanBy, OfProblem, OfSession, Can, in_starts, check_course, goal_course, verdict_course}
 use Rattle.check_run.specs.Minimized.{CanMinimize, CanTellLeast}
-use Rattle.check_run.specs.Joined.{CanJoin, bound_of, joins, refuses}
-use Rattle.check_run.specs.Resumed.{CanResume, CanResumeBy, header_bound}
+use Rattle.check_run.specs.Joined.{CanJoin, joins, refuses}
+use Rattle.check_run.specs.Resumed.{CanResume, CanResumeBy}
 use Rattle.check_run.specs.Run.{Run, HasCourse, IsShown, IsDue, run_of, StatusIsDue, StatusIsShown}
 
 -- a status that is told by an answer
@@ -67,17 +67,17 @@ said-resume-by : (v : Verdict) (p : Problem) (b : Option ℕ) (words : Resume) (
 said-resume-by (accepted s w) p b words cert_in course can = said-same course _ can.3 tt
 said-resume-by (refused f n) p b words cert_in course can = said-same course _ can tt
 
-said-resume : (words : Resume) (script cert_in : List ℕ) (f : Option ScriptFault) (course : Course) → CanBy f (OfProblem (header_bound cert_in) script (λ p. CanResume p (header_bound cert_in) words cert_in)) course → IsSaid course.status
+said-resume : (words : Resume) (script cert_in : List ℕ) (f : Option ScriptFault) (course : Course) → CanBy f (OfProblem words.bound script (λ p. CanResume p words.bound words cert_in)) course → IsSaid course.status
 said-resume words script cert_in (Some f) course can = said-same course _ can tt
-said-resume words script cert_in None course can = said-resume-by (verdict can.0 (header_bound cert_in) cert_in) can.0 (header_bound cert_in) words cert_in course can.2
+said-resume words script cert_in None course can = said-resume-by (verdict can.0 words.bound cert_in) can.0 words.bound words cert_in course can.2
 
 said-join-by : (p : Problem) (b : Option ℕ) (parts : List (List ℕ)) (course : Course) → CanJoin p b parts course → IsSaid course.status
 said-join-by p b parts course (joins cert s v accepts together e) = said-same course _ e tt
 said-join-by p b parts course (refuses text reason e) = said-same course _ e tt
 
-said-join : (script : List ℕ) (parts : List (List ℕ)) (f : Option ScriptFault) (course : Course) → CanBy f (OfProblem (bound_of parts) script (λ p. CanJoin p (bound_of parts) parts)) course → IsSaid course.status
-said-join script parts (Some f) course can = said-same course _ can tt
-said-join script parts None course can = said-join-by can.0 (bound_of parts) parts course can.2
+said-join : (b : Option ℕ) (script : List ℕ) (parts : List (List ℕ)) (f : Option ScriptFault) (course : Course) → CanBy f (OfProblem b script (λ p. CanJoin p b parts)) course → IsSaid course.status
+said-join b script parts (Some f) course can = said-same course _ can tt
+said-join b script parts None course can = said-join-by can.0 b parts course can.2
 
 said-by : (bound : Option ℕ) (script : List ℕ) (goes : List (Problem × Bool) → Course → Type 0) → ((ps : List (Problem × Bool)) (course : Course) → goes ps course → IsSaid course.status) →
     (f : Option ScriptFault) (course : Course) → CanBy f (OfSession bound script goes) course → IsSaid course.status
@@ -108,8 +108,8 @@ said (Some (upgrade words)) script cert_in parts course can = said-same course _
     (said-by words.bound script (λ ps. CanUpgrade ps words.bound words.cert words.out cert_in) (λ ps c h. said-upgrade ps words.bound words.cert words.out cert_in c h) (session_fault words.bound script) can.0 can.1)
 said (Some (plan words)) script cert_in parts course can = said-same course _ can.2
     (said-by words.bound script (λ ps. CanPlan ps words.delta_bits words.margin_bits) (λ ps c h. said-same c _ h.2 tt) (session_fault words.bound script) can.0 can.1)
-said (Some (resume words)) script cert_in parts course can = said-same course _ can.2 (said-resume words script cert_in (script_fault (header_bound cert_in) script) can.0 can.1)
-said (Some (join words)) script cert_in parts course can = said-same course _ can.2 (said-join script parts (script_fault (bound_of parts) script) can.0 can.1)
+said (Some (resume words)) script cert_in parts course can = said-same course _ can.2 (said-resume words script cert_in (script_fault words.bound script) can.0 can.1)
+said (Some (join words)) script cert_in parts course can = said-same course _ can.2 (said-join words.bound script parts (script_fault words.bound script) can.0 can.1)
 said (Some (demo words)) script cert_in parts course can = said-demo can.0 words.options words.cert (demo_script words.seed words.size) course can.2
 
 module _ (command : Option Command) (script cert_in : List ℕ) (parts : List (List ℕ)) (old new : Sight) where

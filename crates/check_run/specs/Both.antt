@@ -1,5 +1,5 @@
 -- A script and a certificate that are both read whole.
-use Rattle.std.specs.Prelude.{◌≡◌, ◌<◌, ℕ, List, [], ◌∷◌, Bool, true, false, Option, Some, None, IfSome, IsSome, length}
+use Rattle.std.specs.Prelude.{◌≡◌, ◌<◌, ℕ, List, [], ◌∷◌, Option, Some, None, IfSome, IsSome, length}
 use Rattle.std.specs.declared.vec.Vec.{Vec}
 use Rattle.std.specs.declared.alloc.Global.{Global}
 use Rattle.desk.specs.Sight.{Sight, SideFailed}
@@ -14,7 +14,7 @@ use Rattle.check_run.specs.declared.status.Status.TheVariants.{InFailed, NoMemor
 use Rattle.check_run.specs.Course.{Course, Quiet}
 use Rattle.check_run.specs.Can.{both_starts, CanBy, OfProblem}
 use Rattle.check_run.specs.Parts.{After}
-use Rattle.check_run.specs.Resumed.{CanResume, behind_line, header_bound}
+use Rattle.check_run.specs.Resumed.{CanResume}
 use Rattle.check_run.specs.Run.{IsReadToEnd}
 use Rattle.check_run.specs.Script.{script_start}
 
@@ -61,12 +61,7 @@ HaltsBoth script cert unread.Memory old new = Quiet (both_starts script cert) ol
 
 -- what a run goes on to with these bytes
 abbrev pub CanGoOn : Resume → List ℕ → List ℕ → Course → Type 0
-CanGoOn words script cert_in = CanBy (script_fault (header_bound cert_in) script) (OfProblem (header_bound cert_in) script (λ p. CanResume p (header_bound cert_in) words cert_in))
-
--- a line was passed, or there is no well formed one
-abbrev pub IsPassed : List (List ℕ) → List (List ℕ) → Bool → Type 0
-IsPassed old new true = behind_line old ≡ Some new
-IsPassed old new false = behind_line old ≡ None
+CanGoOn words script cert_in = CanBy (script_fault words.bound script) (OfProblem words.bound script (λ p. CanResume p words.bound words cert_in))
 
 -- the status of a run that ends so
 abbrev pub status_of : Unread → Status

@@ -27,8 +27,8 @@ use Rattle.script_reading.specs.Session.{HasSession}
 use Rattle.check_run.specs.Answer.{loosenings_for, solve_texts, AreAnswers, IsAnswer}
 use Rattle.check_run.specs.Course.{Start, Course, says, gives, behind}
 use Rattle.check_run.specs.Minimized.{CanMinimize}
-use Rattle.check_run.specs.Joined.{CanJoin, bound_of, join_starts}
-use Rattle.check_run.specs.Resumed.{CanResume, header_bound}
+use Rattle.check_run.specs.Joined.{CanJoin, join_starts}
+use Rattle.check_run.specs.Resumed.{CanResume}
 
 abbrev pub usage_text : List ℕ
 usage_text = codes "usage fault\n"
@@ -159,10 +159,10 @@ Can (Some (plan words)) script cert_in parts course =
     CanFrom words.script (session_fault words.bound script)
     (OfSession words.bound script (λ ps. CanPlan ps words.delta_bits words.margin_bits)) course
 Can (Some (resume words)) script cert_in parts course =
-    CanFromBoth words.script words.cert (script_fault (header_bound cert_in) script)
-    (OfProblem (header_bound cert_in) script (λ p. CanResume p (header_bound cert_in) words cert_in)) course
+    CanFromBoth words.script words.cert (script_fault words.bound script)
+    (OfProblem words.bound script (λ p. CanResume p words.bound words cert_in)) course
 Can (Some (join words)) script cert_in parts course =
-    CanFromParts words (script_fault (bound_of parts) script) (OfProblem (bound_of parts) script (λ p. CanJoin p (bound_of parts) parts)) course
+    CanFromParts words (script_fault words.bound script) (OfProblem words.bound script (λ p. CanJoin p words.bound parts)) course
 Can (Some (demo words)) script cert_in parts course =
     OfProblem words.options.bound (demo_script words.seed words.size) (λ p. CanDemo p words.options words.cert (demo_script words.seed words.size)) course
 

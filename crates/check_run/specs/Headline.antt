@@ -33,8 +33,8 @@ use Rattle.check_run.specs.Course.{Course, appended}
 use Rattle.check_run.specs.Can.{Can, ArePlans, check_texts, plan_texts}
 use Rattle.cert_joined.specs.Covers.{JoinsTexts}
 use Rattle.check_run.specs.Minimized.{Cause, IsLeastAnswer, minimize_text}
-use Rattle.check_run.specs.Joined.{IsNotJoined, bound_of}
-use Rattle.check_run.specs.Resumed.{IsMore, header_bound}
+use Rattle.check_run.specs.Joined.{IsNotJoined}
+use Rattle.check_run.specs.Resumed.{IsMore}
 use Rattle.check_run.specs.Run.{Run, OnInput}
 
 -- ---- any number of checks
@@ -133,31 +133,30 @@ pub record IsNoLeast (words : Minimize) (script : List ℕ) (old new : Sight) : 
 -- what is left, and what its value says of the check is so.
 pub record IsResumed (words : Resume) (script cert_in : List ℕ) (old new : Sight) : Type 0 where
   pub problem : Problem
-  pub has : HasProblem (header_bound cert_in) problem script
+  pub has : HasProblem words.bound problem script
   pub loosenings : Loosenings
   pub read : Value
-  pub accepted : IsAccepted problem (header_bound cert_in) cert_in loosenings read
+  pub accepted : IsAccepted problem words.bound cert_in loosenings read
   pub cert : List ℕ
   pub text : List ℕ
   pub written : new.cert_out ≡ appended old.cert_out cert
-  pub more : IsMore problem (header_bound cert_in) words cert_in loosenings read cert text
+  pub more : IsMore problem words.bound words cert_in loosenings read cert text
   pub answer : new.answer ≡ appended old.answer text
-  pub say : IsTrueValue (header_bound cert_in) (in_newest 1 loosenings) (commands_of (header_bound cert_in) script) more.value
+  pub say : IsTrueValue words.bound (in_newest 1 loosenings) (commands_of words.bound script) more.value
 
--- What was written as certificate is accepted for the problem of the script's only check, with the bound that the first of several certificates
--- names, and so does it; it joins the covers of the certificates; the answer is the text of its value, and what that says of the check is so.
-pub record IsJoined (script : List ℕ) (parts : List (List ℕ)) (old new : Sight) : Type 0 where
+-- What was written as certificate is accepted for the problem of the script's only check; it joins the covers of the certificates; the answer is the
+-- text of its value, and what that says of the check is so.
+pub record IsJoined (bound : Option ℕ) (script : List ℕ) (parts : List (List ℕ)) (old new : Sight) : Type 0 where
   pub problem : Problem
-  pub has : HasProblem (bound_of parts) problem script
+  pub has : HasProblem bound problem script
   pub cert : List ℕ
-  pub named : header_bound cert ≡ bound_of parts
   pub loosenings : Loosenings
   pub value : Value
   pub written : new.cert_out ≡ appended old.cert_out cert
-  pub accepted : IsAccepted problem (bound_of parts) cert loosenings value
+  pub accepted : IsAccepted problem bound cert loosenings value
   pub joins : JoinsTexts parts cert
   pub answer : new.answer ≡ appended old.answer (check_text loosenings value)
-  pub say : IsTrueValue (bound_of parts) loosenings (commands_of (bound_of parts) script) value
+  pub say : IsTrueValue bound loosenings (commands_of bound script) value
 
 -- `solve`, `minimize`, `check`, `resume` and `join` answer where that is so.
 abbrev pub IsTrueAnswer : Option Command → List ℕ → List ℕ → List (List ℕ) → Sight → Sight → Type 0
@@ -166,7 +165,7 @@ IsTrueAnswer (Some (minimize words)) script cert_in parts old new = IsLeast word
 IsTrueAnswer (Some (check words)) script cert_in parts old new =
     IsConfirmed words.bound script cert_in old new ⊎ IsConfirmedLeast words.bound script cert_in old new
 IsTrueAnswer (Some (resume words)) script cert_in parts old new = IsResumed words script cert_in old new
-IsTrueAnswer (Some (join words)) script cert_in parts old new = IsJoined script parts old new
+IsTrueAnswer (Some (join words)) script cert_in parts old new = IsJoined words.bound script parts old new
 IsTrueAnswer _ script cert_in parts old new = Unit {0}
 
 -- ---- one check
@@ -224,10 +223,10 @@ IsTrueUnsat (Some (upgrade words)) script cert_in parts old new = Unit {0}
 IsTrueUnsat (Some (plan words)) script cert_in parts old new = Unit {0}
 IsTrueUnsat (Some (resume words)) script cert_in parts old new =
     (rest : List ℕ) → IsWritten (unsat_word ++ rest) old new →
-    (s : Loosenings) × IsWritten (unsat_text s) old new × IsWrittenUnsat (header_bound cert_in) script s old new
+    (s : Loosenings) × IsWritten (unsat_text s) old new × IsWrittenUnsat words.bound script s old new
 IsTrueUnsat (Some (join words)) script cert_in parts old new =
     (rest : List ℕ) → IsWritten (confirmed_unsat_word ++ rest) old new →
-    (s : Loosenings) × IsWritten (check_text s (left_open [])) old new × IsWrittenUnsat (bound_of parts) script s old new
+    (s : Loosenings) × IsWritten (check_text s (left_open [])) old new × IsWrittenUnsat words.bound script s old new
 IsTrueUnsat None script cert_in parts old new = Unit {0}
 
 -- The certificate is accepted as this point, which is one of the script.
@@ -263,11 +262,11 @@ IsTrueDeltaSat (Some (check words)) script cert_in parts old new =
     (s : Loosenings) × (space : Space) × IsWritten (check_text s (at_point space)) old new × IsConfirmedPoint words.bound script cert_in s space
 IsTrueDeltaSat (Some (resume words)) script cert_in parts old new =
     (rest : List ℕ) → IsWritten (delta_sat_word ++ rest) old new →
-    (p : Problem) × (s : Loosenings) × (space : Space) × IsBuilt (header_bound cert_in) script p × IsWritten (delta_sat_text p s space) old new
-    × IsDeltaSat (header_bound cert_in) (commands_of (header_bound cert_in) script) s space
+    (p : Problem) × (s : Loosenings) × (space : Space) × IsBuilt words.bound script p × IsWritten (delta_sat_text p s space) old new
+    × IsDeltaSat words.bound (commands_of words.bound script) s space
 IsTrueDeltaSat (Some (join words)) script cert_in parts old new =
     (rest : List ℕ) → IsWritten (confirmed_delta_sat_word ++ rest) old new →
-    (s : Loosenings) × (space : Space) × IsWritten (check_text s (at_point space)) old new × IsWrittenPoint (bound_of parts) script s space old new
+    (s : Loosenings) × (space : Space) × IsWritten (check_text s (at_point space)) old new × IsWrittenPoint words.bound script s space old new
 IsTrueDeltaSat _ script cert_in parts old new = Unit {0}
 
 -- ---- certificates that are refused, or written again
@@ -294,22 +293,21 @@ pub record IsRefusedForGoal (bound : Option ℕ) (script cert_in : List ℕ) (ol
   pub refuses : goal_verdict problem goal room bound cert_in ≡ refused fault line
   pub written : new.answer ≡ appended old.answer (verdict_text (refused fault line))
 
--- The same by the problem of its only check, where the certificate names the bound.
-pub record IsRefusedToResume (script cert_in : List ℕ) (old new : Sight) : Type 0 where
+-- The same by the verdict on its only check.
+pub record IsRefusedToResume (bound : Option ℕ) (script cert_in : List ℕ) (old new : Sight) : Type 0 where
   pub problem : Problem
-  pub has : HasProblem (header_bound cert_in) problem script
+  pub has : HasProblem bound problem script
   pub fault : CertFault
   pub line : ℕ
-  pub refuses : verdict problem (header_bound cert_in) cert_in ≡ refused fault line
+  pub refuses : verdict problem bound cert_in ≡ refused fault line
   pub written : new.answer ≡ appended old.answer (verdict_text (refused fault line))
 
--- By the problem of its only check, with the bound that the first of several certificates names, one of them is refused, or each is accepted and
--- they do not go together, as the answer says.
-pub record AreNotJoined (script : List ℕ) (parts : List (List ℕ)) (old new : Sight) : Type 0 where
+-- By the problem of its only check, one of several certificates is refused, or each is accepted and they do not go together, as the answer says.
+pub record AreNotJoined (bound : Option ℕ) (script : List ℕ) (parts : List (List ℕ)) (old new : Sight) : Type 0 where
   pub problem : Problem
-  pub has : HasProblem (bound_of parts) problem script
+  pub has : HasProblem bound problem script
   pub text : List ℕ
-  pub reason : IsNotJoined problem (bound_of parts) parts text
+  pub reason : IsNotJoined problem bound parts text
   pub written : new.answer ≡ appended old.answer text
 
 -- A certificate that is refused has a fault; `upgrade`, `resume` and `join` write none then.
@@ -319,9 +317,9 @@ IsTrueRefusal (Some (check words)) script cert_in parts old new =
 IsTrueRefusal (Some (upgrade words)) script cert_in parts old new =
     IsRefusedCert words.bound script cert_in old new × (new.cert_out ≡ appended old.cert_out [])
 IsTrueRefusal (Some (resume words)) script cert_in parts old new =
-    IsRefusedToResume script cert_in old new × (new.cert_out ≡ appended old.cert_out [])
+    IsRefusedToResume words.bound script cert_in old new × (new.cert_out ≡ appended old.cert_out [])
 IsTrueRefusal (Some (join words)) script cert_in parts old new =
-    AreNotJoined script parts old new × (new.cert_out ≡ appended old.cert_out [])
+    AreNotJoined words.bound script parts old new × (new.cert_out ≡ appended old.cert_out [])
 IsTrueRefusal _ script cert_in parts old new = Unit {0}
 
 -- The certificate is accepted, and what was written is accepted in the newest version for so many checks, with the same values: the same

@@ -1,5 +1,5 @@
 -- What `join` may do: one certificate of several, which is accepted, or why there is none.
-use Rattle.std.specs.Prelude.{◌≡◌, ◌++◌, ℕ, suc, List, [], ◌∷◌, Option, None, codes, decimal, length, map, take}
+use Rattle.std.specs.Prelude.{◌≡◌, ◌++◌, ℕ, suc, List, [], ◌∷◌, Option, codes, decimal, length, map}
 use Rattle.std.specs.List.{AllByRecursion}
 use Rattle.desk.specs.declared.desk.Port.TheVariants.{Answer, Draft, Part, Script}
 use Rattle.command_line.specs.Words.{Join}
@@ -11,7 +11,6 @@ use Rattle.cert_model.specs.AnswerText.{check_text, text_line, verdict_text}
 use Rattle.cert_joined.specs.Covers.{JoinsTexts}
 use Rattle.check_run.specs.declared.status.Status.TheVariants.{Answered, CertRefused}
 use Rattle.check_run.specs.Course.{Course, Start, says}
-use Rattle.check_run.specs.Resumed.{header_bound}
 
 -- ---- the certificates
 
@@ -26,15 +25,6 @@ several_starts names out = part_starts names ++ (Draft, out) ∷ []
 -- the script's before them
 abbrev pub join_starts : Join → List Start
 join_starts words = (Script, words.script) ∷ several_starts words.certs words.out
-
--- so many bytes of the first certificate are searched for the bound that it names
-abbrev pub head_bytes : ℕ
-head_bytes = 65536
-
--- the bound that the first certificate names in them
-abbrev pub bound_of : List (List ℕ) → Option ℕ
-bound_of [] = None
-bound_of (first ∷ others) = header_bound (take head_bytes first)
 
 module _ (p : Problem) (b : Option ℕ) where
   abbrev pub IsAcceptedAlone : List ℕ → Type 0

@@ -1,11 +1,9 @@
 -- What `resume` may do: a certificate that goes on from the one that was read, and its answer.
-use Rattle.std.specs.Prelude.{◌≡◌, ◌⊎◌, ℕ, suc, List, [], ◌∷◌, ◌++◌, Option, Some, None, option_and_then, codes, decimal}
+use Rattle.std.specs.Prelude.{◌≡◌, ◌⊎◌, ℕ, suc, List, [], ◌∷◌, ◌++◌, Option, codes, decimal}
 use Rattle.command_line.specs.Words.{Resume}
 use Rattle.poly_graph.specs.Problem.{Problem}
 use Rattle.interval_model.specs.Space.{Space}
 use Rattle.cover_model.specs.State.{Loosenings}
-use Rattle.cert_read.specs.CertLine.{bound, line, Parsed, parsed}
-use Rattle.cert_read.specs.Lines.{lines_of}
 use Rattle.cert_model.specs.Due.{Standing, Value, at_point, left_open}
 use Rattle.cert_model.specs.Accepted.{IsAccepted, Verdict, accepted, refused, verdict}
 use Rattle.cert_model.specs.AnswerText.{delta_sat_text, left_text, solve_text, verdict_text}
@@ -13,32 +11,6 @@ use Rattle.cert_upgrade.specs.Upgraded.{in_newest, upgraded}
 use Rattle.cert_resumed.specs.Resumed.{Share, IsResumption, all_lemmas, each_left, joined, own_left, others, in_version_2}
 use Rattle.check_run.specs.declared.status.Status.TheVariants.{CertRefused}
 use Rattle.check_run.specs.Course.{Course, says, gives}
-
--- ---- the bound that a certificate names
-
--- the lines behind the first one, where that is well formed
-abbrev pub behind_said : Parsed → List (List ℕ) → Option (List (List ℕ))
-behind_said (line l) ls = Some ls
-behind_said _ ls = None
-
-abbrev pub behind_line : List (List ℕ) → Option (List (List ℕ))
-behind_line [] = None
-behind_line (l ∷ ls) = behind_said (parsed l) ls
-
-abbrev pub bound_in : Parsed → Option ℕ
-bound_in (line (bound b)) = b
-bound_in _ = None
-
-abbrev pub first_bound : List (List ℕ) → Option ℕ
-first_bound [] = None
-first_bound (l ∷ ls) = bound_in (parsed l)
-
--- in the fourth line, behind three that are well formed; none where there is no such line
-abbrev pub fourth_bound : List (List ℕ) → Option ℕ
-fourth_bound ls = option_and_then (λ a. option_and_then (λ b. option_and_then first_bound (behind_line b)) (behind_line a)) (behind_line ls)
-
-abbrev pub header_bound : List ℕ → Option ℕ
-header_bound cert = fourth_bound (lines_of cert)
 
 -- ---- answers
 

@@ -18,7 +18,7 @@ use Rattle.check_run.specs.declared.status.Status.TheVariants.{InFailed, OutFail
 use Rattle.check_run.specs.Both.{IsScriptHeld}
 use Rattle.check_run.specs.Can.{CanBy, OfProblem}
 use Rattle.check_run.specs.Course.{Course, Start, StartedEnds, Quiet, appended}
-use Rattle.check_run.specs.Joined.{CanJoin, bound_of, join_starts, keeps, part_line, several_starts}
+use Rattle.check_run.specs.Joined.{CanJoin, join_starts, keeps, part_line, several_starts}
 use Rattle.check_run.specs.Parts.{After}
 use Rattle.check_run.specs.Stops.{stop_text}
 
@@ -69,5 +69,5 @@ EndsKept w mid new status =
     (old : Sight) (text : List ℕ) (s : Loosenings) (v : Value) → IsDrafted old text mid → w ≡ verdict_of s v → StartedEnds (λ course. course ≡ keeps text (check_text s v)) old new status
 
 -- what a run goes on to behind all starts
-abbrev pub CanJoinOn : List ℕ → List (List ℕ) → Course → Type 0
-CanJoinOn script parts = CanBy (script_fault (bound_of parts) script) (OfProblem (bound_of parts) script (λ p. CanJoin p (bound_of parts) parts))
+abbrev pub CanJoinOn : Option ℕ → List ℕ → List (List ℕ) → Course → Type 0
+CanJoinOn bound script parts = CanBy (script_fault bound script) (OfProblem bound script (λ p. CanJoin p bound parts))

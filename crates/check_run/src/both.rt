@@ -1,14 +1,11 @@
 // A script and a certificate, both read whole before anything is done with them.
-ghost use Rattle.std.specs.Prelude.{◌≡◌, IfOk, MatchResult, Ok};
-ghost use Rattle.check_run.specs.Both.{FetchesBoth, FetchesCert, FetchesScript, HaltsBoth, HaltsCert, HaltsScript, IsPassed, status_of};
-ghost use Rattle.check_run.specs.Resumed.{first_bound, fourth_bound, header_bound};
-ghost use Rattle.cert_read.specs.Reading.{lines_ahead};
+ghost use Rattle.std.specs.Prelude.{◌≡◌, MatchResult, Ok};
+ghost use Rattle.check_run.specs.Both.{FetchesBoth, FetchesCert, FetchesScript, HaltsBoth, HaltsCert, HaltsScript, status_of};
 
 use crate::ports::fetch;
 use crate::status::Status;
-use cert_read::{Line, LineFault, LineReader};
 use desk::{Denied, Desk, Port, ReadAll, read_all};
-use std::alloc::{AllocError, Global};
+use std::alloc::Global;
 
 /// What was read of the two in ports.
 #[derive(Debug, Drop)]
@@ -89,50 +86,4 @@ pub fn fetch_both<D: Desk>(
         Ok(cert) => Ok(Inputs { script, cert }),
         Err(unread) => Err(unread),
     }
-}
-
-// Passes a line that is well formed. Whether there was one.
-fn pass(reader: &mut LineReader) -> Result<bool, AllocError>
-    ensures { IfOk result (IsPassed (lines_ahead reader.old) (lines_ahead reader.new)) }
-{
-    match reader.next_line() {
-        Ok(Some(_)) => Ok(true),
-        Ok(None) => Ok(false),
-        Err(LineFault::Memory) => Err(AllocError),
-        Err(_) => Ok(false),
-    }
-}
-
-// The bound that the next line names.
-fn first_bound(reader: &mut LineReader) -> Result<Option<u32>, AllocError>
-    ensures { IfOk result (λ b. b ≡ first_bound (lines_ahead reader.old)) }
-{
-    match reader.next_line() {
-        Ok(Some(Line::Bound(bound))) => Ok(bound),
-        Ok(_) => Ok(None),
-        Err(LineFault::Memory) => Err(AllocError),
-        Err(_) => Ok(None),
-    }
-}
-
-// The bound that the fourth line names.
-fn fourth_bound(reader: &mut LineReader) -> Result<Option<u32>, AllocError>
-    ensures { IfOk result (λ b. b ≡ fourth_bound (lines_ahead reader.old)) }
-{
-    if pass(reader)? && pass(reader)? && pass(reader)? {
-        first_bound(reader)
-    } else {
-        Ok(None)
-    }
-}
-
-/// The bound of the words that a certificate names in its fourth line, behind three that are well formed; none where
-/// there is no such line.
-pub fn header_bound(alloc: Global, cert: &[u8]) -> Result<Option<u32>, AllocError>
-    ensures { IfOk result (λ b. b ≡ header_bound cert.now) }
-{
-    let mut reader = LineReader::new(alloc);
-    reader.feed(cert)?;
-    reader.end();
-    fourth_bound(&mut reader)
 }

@@ -26,7 +26,7 @@ mod several;
 mod solved;
 mod status;
 
-pub use both::{Inputs, Unread, fetch_both, header_bound};
+pub use both::{Inputs, Unread, fetch_both};
 pub use check::{ROOM, Unconfirmed, check_session, refuse};
 pub use checked::{confirmed_delta_sat, confirmed_unsat, left_open};
 pub use goal::check_goal;

@@ -1,15 +1,16 @@
-// Names as SMT-LIB 2.6, section 3.1, writes them: in bars, unless they are simple symbols that are not reserved.
+// Names as SMT-LIB 2.6, section 3.1, writes them: in bars, unless they are simple symbols that are not reserved. The names
+// of constants that stand for roots and quotients are no symbols.
 ghost use Rattle.std.specs.Prelude.{◌≡◌, ◌++◌, OnOk, is_some};
 ghost use Rattle.std.specs.List.{list_all};
 ghost use Rattle.script_model.specs.Reading.{found};
 ghost use Rattle.script_model.specs.Symbol.{is_simple_symbol, is_symbol_byte, reserved_words};
-ghost use Rattle.cert_model.specs.AnswerText.{name_text};
+ghost use Rattle.cert_model.specs.AnswerText.{name_text, symbol_text};
 
 use std::alloc::AllocError;
 
-/// Appends the name.
-pub(crate) fn append_name(text: &mut Vec<u8>, name: &[u8]) -> Result<(), AllocError>
-    ensures { OnOk result (text.new.items ≡ text.old.items ++ name_text name.now) }
+// Appends a name that is a symbol.
+fn append_symbol(text: &mut Vec<u8>, name: &[u8]) -> Result<(), AllocError>
+    ensures { OnOk result (text.new.items ≡ text.old.items ++ symbol_text name.now) }
 {
     if is_simple_symbol(name) {
         return text.extend_from_slice(name);
@@ -17,6 +18,16 @@ pub(crate) fn append_name(text: &mut Vec<u8>, name: &[u8]) -> Result<(), AllocEr
     text.extend_from_slice(b"|")?;
     text.extend_from_slice(name)?;
     text.extend_from_slice(b"|")
+}
+
+/// Appends the name.
+pub(crate) fn append_name(text: &mut Vec<u8>, name: &[u8]) -> Result<(), AllocError>
+    ensures { OnOk result (text.new.items ≡ text.old.items ++ name_text name.now) }
+{
+    match name {
+        [b'|', rest @ ..] => text.extend_from_slice(rest),
+        _ => append_symbol(text, name),
+    }
 }
 
 // Whether the name needs no bars.

@@ -237,7 +237,7 @@ resume_in_range rows asked h =
           → number_in 0 60 (codes "least-bits") rows ≡ least → number_in 0 1048576 (codes "budget") rows ≡ budget → number_in 1 64 (codes "workers") rows ≡ workers
           → option_and_then (λ script. option_and_then (λ cert. option_and_then (λ out. option_and_then (λ share.
           option_and_then (λ least. option_and_then (λ budget. option_and_then (λ workers.
-          parted_resume (record { script = script; cert = cert; out = out; share = share; least_bits = least; budget = budget; workers = workers }))
+          parted_resume (record { script = script; cert = cert; out = out; share = share; least_bits = least; budget = budget; bound = number_in 1 4294967295 (codes "bound") rows; workers = workers }))
           workers) budget) least) share) out) cert) script ≡ Some asked → IsResume asked
       by_parts None cert out share least budget workers sh lh bh wh e = cc
       by_parts (Some script) None out share least budget workers sh lh bh wh e = cc
@@ -250,31 +250,33 @@ resume_in_range rows asked h =
           let l = between 0 60 (codes "least-bits") rows least lh in
           let b = between 0 1048576 (codes "budget") rows budget bh in
           let w = between 1 64 (codes "workers") rows workers wh in
-          subst IsResume (parted_resume_is (record { script = script; cert = cert; out = out; share = share; least_bits = least; budget = budget; workers = workers }) asked e) (record {
+          subst IsResume (parted_resume_is (record { script = script; cert = cert; out = out; share = share; least_bits = least; budget = budget; bound = number_in 1 4294967295 (codes "bound") rows; workers = workers }) asked e) (record {
             share = share_in_range rows share sh;
             least_most = l.at_most;
             budget_most = b.at_most;
+            bound = is_bound _ rows refl;
             workers_least = w.at_least;
             workers_most = w.at_most;
           })
 
-joined_files_are : (c v : Join) → joined_files c ≡ Some v → IsJoin v
-joined_files_are c v h =
+joined_files_are : (c v : Join) → IsBound c.bound → joined_files c ≡ Some v → IsJoin v
+joined_files_are c v bound h =
     let p = passed (are_several c.certs && are_files c.certs) c v h in
     let several = and_first (are_several c.certs) (are_files c.certs) p.0 in
     subst IsJoin p.1 (record {
       certs_least = true_at_most 2 (length c.certs) (and_first _ _ several);
       certs_most = true_at_most (length c.certs) 1000000 (and_second _ _ several);
+      bound = bound;
     })
 
 join_in_range : (rows : List Row) (asked : Join) → join_of rows ≡ Some asked → IsJoin asked
 join_in_range rows asked h = by_parts (first_of (codes "script") rows) (first_of (codes "out") rows) (all_of (codes "cert") rows) h where
   by_parts : (script out : Option Text) (certs : Option (List Text)) → option_and_then (λ script. option_and_then (λ out. option_and_then (λ certs.
-      joined_files (record { script = script; out = out; certs = certs })) certs) out) script ≡ Some asked → IsJoin asked
+      joined_files (record { script = script; out = out; certs = certs; bound = number_in 1 4294967295 (codes "bound") rows })) certs) out) script ≡ Some asked → IsJoin asked
   by_parts None out certs e = cc
   by_parts (Some script) None certs e = cc
   by_parts (Some script) (Some out) None e = cc
-  by_parts (Some script) (Some out) (Some certs) e = joined_files_are (record { script = script; out = out; certs = certs }) asked e
+  by_parts (Some script) (Some out) (Some certs) e = joined_files_are (record { script = script; out = out; certs = certs; bound = number_in 1 4294967295 (codes "bound") rows }) asked (is_bound _ rows refl) e
 
 -- what a choice of two subcommands gives
 taken : (f : Solve → Command) (o : Option Solve) (c : Command) → option_map f o ≡ Some c → Chained (λ x. Some (f x)) o c

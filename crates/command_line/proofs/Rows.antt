@@ -166,11 +166,11 @@ unfolding program clap_on_literals number_of
 plan_of_wider_margin = refl
 
 -- going on from a certificate: the whole, and a part
-resume_whole : command_of (codes "dpoly" ∷ codes "resume" ∷ codes "s" ∷ codes "c" ∷ codes "o" ∷ []) ≡ Some (resume (record { script = codes "s"; cert = codes "c"; out = codes "o"; share = record { number = 1; count = 1 }; least_bits = 20; budget = 65536; workers = 1 }))
+resume_whole : command_of (codes "dpoly" ∷ codes "resume" ∷ codes "s" ∷ codes "c" ∷ codes "o" ∷ []) ≡ Some (resume (record { script = codes "s"; cert = codes "c"; out = codes "o"; share = record { number = 1; count = 1 }; least_bits = 20; budget = 65536; bound = None; workers = 1 }))
 unfolding program clap_on_literals number_of parts_of
 resume_whole = refl
 
-resume_part : command_of (codes "dpoly" ∷ codes "resume" ∷ codes "s" ∷ codes "c" ∷ codes "o" ∷ codes "--part" ∷ codes "3/64" ∷ codes "--budget=7" ∷ codes "--workers" ∷ codes "2" ∷ []) ≡ Some (resume (record { script = codes "s"; cert = codes "c"; out = codes "o"; share = record { number = 3; count = 64 }; least_bits = 20; budget = 7; workers = 2 }))
+resume_part : command_of (codes "dpoly" ∷ codes "resume" ∷ codes "s" ∷ codes "c" ∷ codes "o" ∷ codes "--part" ∷ codes "3/64" ∷ codes "--budget=7" ∷ codes "--bound" ∷ codes "8" ∷ codes "--workers" ∷ codes "2" ∷ []) ≡ Some (resume (record { script = codes "s"; cert = codes "c"; out = codes "o"; share = record { number = 3; count = 64 }; least_bits = 20; budget = 7; bound = Some 8; workers = 2 }))
 unfolding program clap_on_literals number_of parts_of
 resume_part = refl
 
@@ -196,11 +196,11 @@ unfolding program clap_on_literals number_of parts_of
 both_piped = refl
 
 -- one certificate of several: two, and three
-join_two : command_of (codes "dpoly" ∷ codes "join" ∷ codes "s" ∷ codes "o" ∷ codes "a" ∷ codes "b" ∷ []) ≡ Some (join (record { script = codes "s"; out = codes "o"; certs = codes "a" ∷ codes "b" ∷ [] }))
+join_two : command_of (codes "dpoly" ∷ codes "join" ∷ codes "s" ∷ codes "o" ∷ codes "a" ∷ codes "b" ∷ []) ≡ Some (join (record { script = codes "s"; out = codes "o"; certs = codes "a" ∷ codes "b" ∷ []; bound = None }))
 unfolding program clap_on_literals number_of
 join_two = refl
 
-join_three : command_of (codes "dpoly" ∷ codes "join" ∷ codes "-" ∷ codes "-" ∷ codes "a" ∷ codes "--" ∷ codes "-b" ∷ codes "a" ∷ []) ≡ Some (join (record { script = codes "-"; out = codes "-"; certs = codes "a" ∷ codes "-b" ∷ codes "a" ∷ [] }))
+join_three : command_of (codes "dpoly" ∷ codes "join" ∷ codes "-" ∷ codes "-" ∷ codes "a" ∷ codes "--" ∷ codes "-b" ∷ codes "a" ∷ []) ≡ Some (join (record { script = codes "-"; out = codes "-"; certs = codes "a" ∷ codes "-b" ∷ codes "a" ∷ []; bound = None }))
 unfolding program clap_on_literals number_of
 join_three = refl
 
@@ -213,6 +213,14 @@ join_piped : command_of (codes "dpoly" ∷ codes "join" ∷ codes "s" ∷ codes 
 unfolding program clap_on_literals number_of
 join_piped = refl
 
-join_with_option : command_of (codes "dpoly" ∷ codes "join" ∷ codes "s" ∷ codes "o" ∷ codes "a" ∷ codes "b" ∷ codes "--bound" ∷ codes "8" ∷ []) ≡ None
+join_with_bound : command_of (codes "dpoly" ∷ codes "join" ∷ codes "s" ∷ codes "o" ∷ codes "a" ∷ codes "b" ∷ codes "--bound" ∷ codes "8" ∷ []) ≡ Some (join (record { script = codes "s"; out = codes "o"; certs = codes "a" ∷ codes "b" ∷ []; bound = Some 8 }))
+unfolding program clap_on_literals number_of
+join_with_bound = refl
+
+join_with_bound_first : command_of (codes "dpoly" ∷ codes "join" ∷ codes "--bound=8" ∷ codes "s" ∷ codes "o" ∷ codes "a" ∷ codes "b" ∷ []) ≡ Some (join (record { script = codes "s"; out = codes "o"; certs = codes "a" ∷ codes "b" ∷ []; bound = Some 8 }))
+unfolding program clap_on_literals number_of
+join_with_bound_first = refl
+
+join_with_option : command_of (codes "dpoly" ∷ codes "join" ∷ codes "s" ∷ codes "o" ∷ codes "a" ∷ codes "b" ∷ codes "--budget" ∷ codes "8" ∷ []) ≡ None
 unfolding program clap_on_literals number_of
 join_with_option = refl

@@ -92,8 +92,8 @@ app_in Check = check_named (codes "check")
 app_in Demo = with_parts (new_app (codes "demo")) (Seed ∷ Size ∷ Cert ∷ Workers ∷ [])
 app_in Upgrade = with_parts (new_app (codes "upgrade")) (Script ∷ Cert ∷ Out ∷ Bound ∷ [])
 app_in Plan = with_parts (new_app (codes "plan")) (Script ∷ Delta ∷ Margin ∷ Bound ∷ [])
-app_in Resume = with_parts (new_app (codes "resume")) (Script ∷ Cert ∷ Out ∷ Share ∷ Least ∷ Budget ∷ Workers ∷ [])
-app_in Join = with_parts (new_app (codes "join")) (Script ∷ Out ∷ Certs ∷ [])
+app_in Resume = with_parts (new_app (codes "resume")) (Script ∷ Cert ∷ Out ∷ Share ∷ Least ∷ Budget ∷ Bound ∷ Workers ∷ [])
+app_in Join = with_parts (new_app (codes "join")) (Script ∷ Out ∷ Certs ∷ Bound ∷ [])
 
 -- the command before its subcommands are added, one of which has to be given
 abbrev pub new_program : App

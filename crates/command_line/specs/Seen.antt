@@ -50,6 +50,7 @@ seen_resume asked = record {
   share = seen_share asked.share;
   least_bits = asked.least_bits;
   budget = asked.budget;
+  bound = asked.bound;
   workers = asked.workers;
 }
 
@@ -58,11 +59,11 @@ abbrev pub texts_behind : List (Bor Text) → List Text
 texts_behind = map (λ s. s.now)
 
 abbrev pub seen_join : JoinWords → words.Join
-seen_join asked = record { script = asked.script.now; out = asked.out.now; certs = texts_behind asked.certs.items }
+seen_join asked = record { script = asked.script.now; out = asked.out.now; certs = texts_behind asked.certs.items; bound = asked.bound }
 
 -- the same before the names of the certificates are copied
 abbrev pub seen_names : JoinNames → words.Join
-seen_names asked = record { script = asked.script.now; out = asked.out.now; certs = texts_behind asked.certs.now }
+seen_names asked = record { script = asked.script.now; out = asked.out.now; certs = texts_behind asked.certs.now; bound = asked.bound }
 
 abbrev pub seen : Request → Command
 seen (Solve asked) = solve (seen_solve asked)

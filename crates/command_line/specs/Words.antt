@@ -180,6 +180,7 @@ pub record Resume : Type 0 where
   pub share : Share
   pub least_bits : ℕ
   pub budget : ℕ
+  pub bound : Option ℕ
   pub workers : ℕ
 
 -- not both from standard input
@@ -190,7 +191,16 @@ abbrev pub resume_of : List Row → Option Resume
 resume_of rows =
     option_and_then (λ script. option_and_then (λ cert. option_and_then (λ out. option_and_then (λ share.
     option_and_then (λ least. option_and_then (λ budget. option_and_then (λ workers.
-    parted_resume (record { script = script; cert = cert; out = out; share = share; least_bits = least; budget = budget; workers = workers }))
+    parted_resume (record {
+      script = script;
+      cert = cert;
+      out = out;
+      share = share;
+      least_bits = least;
+      budget = budget;
+      bound = number_in 1 4294967295 (codes "bound") rows;
+      workers = workers;
+    }))
     (number_in 1 64 (codes "workers") rows)) (number_in 0 1048576 (codes "budget") rows)) (number_in 0 60 (codes "least-bits") rows))
     (share_in rows)) (first_of (codes "out") rows)) (first_of (codes "cert") rows)) (first_of (codes "script") rows)
 
@@ -199,6 +209,7 @@ pub record Join : Type 0 where
   pub script : Text
   pub out : Text
   pub certs : List Text
+  pub bound : Option ℕ
 
 -- so many that they can be joined
 abbrev pub are_several : List Text → Bool
@@ -217,7 +228,7 @@ joined_files asked = if are_several asked.certs && are_files asked.certs then So
 abbrev pub join_of : List Row → Option Join
 join_of rows =
     option_and_then (λ script. option_and_then (λ out. option_and_then (λ certs.
-    joined_files (record { script = script; out = out; certs = certs }))
+    joined_files (record { script = script; out = out; certs = certs; bound = number_in 1 4294967295 (codes "bound") rows }))
     (all_of (codes "cert") rows)) (first_of (codes "out") rows)) (first_of (codes "script") rows)
 
 pub data Command : Type 0 where
@@ -295,13 +306,15 @@ pub record IsResume (asked : Resume) : Type 0 where
   pub share : IsShare asked.share
   pub least_most : asked.least_bits ≤ 60
   pub budget_most : asked.budget ≤ 1048576
+  pub bound : IsBound asked.bound
   pub workers_least : 1 ≤ asked.workers
   pub workers_most : asked.workers ≤ 64
 
--- There are so many certificates that they can be joined.
+-- There are so many certificates that they can be joined, and the bound is in its range.
 pub record IsJoin (asked : Join) : Type 0 where
   pub certs_least : 2 ≤ length asked.certs
   pub certs_most : length asked.certs ≤ 1000000
+  pub bound : IsBound asked.bound
 
 -- The gap and the options are in their ranges.
 pub record IsMinimize (asked : Minimize) : Type 0 where

@@ -245,17 +245,18 @@ const UPGRADE: [Part; 4] = [Part::Script, Part::Cert, Part::Out, Part::Bound];
 
 const PLAN: [Part; 4] = [Part::Script, Part::Delta, Part::Margin, Part::Bound];
 
-const RESUME: [Part; 7] = [
+const RESUME: [Part; 8] = [
     Part::Script,
     Part::Cert,
     Part::Out,
     Part::Share,
     Part::Least,
     Part::Budget,
+    Part::Bound,
     Part::Workers,
 ];
 
-const JOIN: [Part; 3] = [Part::Script, Part::Out, Part::Certs];
+const JOIN: [Part; 4] = [Part::Script, Part::Out, Part::Certs, Part::Bound];
 
 fn solve_command<'a>(alloc: Global) -> Result<Command<'a>, AllocError>
     ensures app { IfOk result (λ c. app_of c ≡ app_in Name.Solve) }

@@ -279,6 +279,7 @@ fn resume_words<'a>(matches: &ArgMatches<'a>) -> Option<ResumeWords<'a>>
     let share = share_word(matches)?;
     let least_bits = number(matches, "least-bits", 0, 60)?;
     let budget = number(matches, "budget", 0, 1048576)?;
+    let bound = number(matches, "bound", 1, 4294967295);
     let workers = number(matches, "workers", 1, 64)?;
     if are_both_piped(script, cert) {
         return None;
@@ -290,6 +291,7 @@ fn resume_words<'a>(matches: &ArgMatches<'a>) -> Option<ResumeWords<'a>>
         share,
         least_bits,
         budget,
+        bound,
         workers,
     })
 }
@@ -321,6 +323,7 @@ struct JoinNames<'m, 'a> {
     script: &'a str,
     out: &'a str,
     certs: &'m [&'a str],
+    bound: Option<u32>,
 }
 
 fn join_names<'m, 'a>(matches: &'m ArgMatches<'a>) -> Option<JoinNames<'m, 'a>>
@@ -329,8 +332,14 @@ fn join_names<'m, 'a>(matches: &'m ArgMatches<'a>) -> Option<JoinNames<'m, 'a>>
     let script = text(matches, "script")?;
     let out = text(matches, "out")?;
     let certs = texts(matches, "cert")?;
+    let bound = number(matches, "bound", 1, 4294967295);
     if 2 <= certs.len() && certs.len() <= 1_000_000 && are_files(certs) {
-        Some(JoinNames { script, out, certs })
+        Some(JoinNames {
+            script,
+            out,
+            certs,
+            bound,
+        })
     } else {
         None
     }
@@ -350,6 +359,7 @@ fn join_words<'a>(alloc: Global, matches: &ArgMatches<'a>) -> Result<JoinWords<'
             script: names.script,
             out: names.out,
             certs,
+            bound: names.bound,
         }),
         Err(_) => Err(Refused::Memory),
     }

@@ -90,7 +90,7 @@ pub struct Share {
 }
 
 /// What `resume` is asked for: the names of the script, of the certificate that is read, and of the one that is written.
-/// Margin, delta and bound are those of the certificate.
+/// Margin and delta are those of the certificate.
 #[derive(Clone, Copy, Debug, PartialEq, Eq)]
 pub struct ResumeWords<'a> {
     pub script: &'a str,
@@ -102,6 +102,8 @@ pub struct ResumeWords<'a> {
     /// How many boxes may be cut at most beyond those of the certificate; from 0 to 1,048,576.
     pub budget: u32,
     /// As for `solve`.
+    pub bound: Option<u32>,
+    /// As for `solve`.
     pub workers: u32,
 }
 
@@ -112,6 +114,8 @@ pub struct JoinWords<'a> {
     pub out: &'a str,
     /// From 2 to 1,000,000; none is `-`.
     pub certs: Vec<&'a str>,
+    /// The size up to which a constant without a bound of its own is looked at, where one is given; from 1.
+    pub bound: Option<u32>,
 }
 
 /// What the words ask for. A name `-` stands for standard input or output.

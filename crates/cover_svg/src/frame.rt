@@ -80,6 +80,14 @@ impl<'a> Side<'a> {
     }
 }
 
+// A name as it is printed: one that stands for a root or a quotient without the bar at its head.
+fn shown(name: &[u8]) -> &[u8] {
+    match name {
+        [b'|', rest @ ..] => rest,
+        _ => name,
+    }
+}
+
 // The Real axes of the problem, whose cover begins with this space.
 fn sides_of<'a>(
     alloc: Global,
@@ -93,7 +101,7 @@ fn sides_of<'a>(
             root.axes.get(axis),
         ) {
             sides.push(Side {
-                name: declared.name.as_slice(),
+                name: shown(declared.name.as_slice()),
                 axis,
                 from,
                 to,

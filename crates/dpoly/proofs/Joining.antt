@@ -1,11 +1,11 @@
 -- From certificates that were joined to the end of a run.
-use Rattle.std.proofs.Common.{◌≡◌, ◌<◌, ◌⊎◌, inl, inr, ℕ, List, [], ◌∷◌, ◌++◌, Option, Some, None, Result, Ok, Err, IfOk, MatchResult, Vec, Global, codes, take, length, arith, refl, ap, sym, ◌∙◌, subst}
+use Rattle.std.proofs.Common.{◌≡◌, ◌⊎◌, inl, inr, ℕ, List, [], ◌∷◌, ◌++◌, Option, Some, None, Result, Ok, Err, IfOk, MatchResult, Vec, Global, codes, take, length, refl, ap, sym, ◌∙◌, subst}
 use Rattle.std.proofs.lemmas.Option.{none-some}
 use Rattle.std.specs.declared.alloc.AllocError.{AllocError}
 use Rattle.desk.specs.declared.desk.Port.TheVariants.{Answer}
 use Rattle.desk.specs.Draft.{IsDrafted}
 use Rattle.desk.specs.Sight.{Sight, SideFailed}
-use Rattle.command_line.specs.Words.{IsJoin, Join, join}
+use Rattle.command_line.specs.Words.{Join, join}
 use Rattle.poly_graph.specs.Problem.{Problem}
 use Rattle.poly_graph.specs.ProblemViews.{Parts, problem_of}
 use Rattle.cover_model.specs.State.{Loosenings}
@@ -32,7 +32,7 @@ use Rattle.check_run.specs.declared.status.Status.TheVariants.{Answered, CertRef
 use Rattle.check_run.specs.Both.{IsScriptHeld, status_of}
 use Rattle.check_run.specs.Can.{Can, CanBy, OfProblem}
 use Rattle.check_run.specs.Course.{Course, Quiet, RunEnds, Ends, at_its_end, out_failed, no_memory, StartedEnds, Stopped, appended, draft_fails, goes_on, in_fails, no_memory_left, says}
-use Rattle.check_run.specs.Joined.{AreAllAccepted, CanJoin, IsNotJoined, apart_text, bound_of, join_starts, joins, keeps, not_joined_line, one_refused, part_line, refused_part_text, refuses}
+use Rattle.check_run.specs.Joined.{AreAllAccepted, CanJoin, IsNotJoined, apart_text, join_starts, joins, keeps, not_joined_line, one_refused, part_line, refused_part_text, refuses}
 use Rattle.check_run.specs.Joined as together
 use Rattle.check_run.specs.Run.{HasCause, JoinHasCause, run_of}
 use Rattle.check_run.specs.Script.{HaltEnds, IsHaltOfFault, IsTooLong}
@@ -300,41 +300,28 @@ halt-ends f goes (halt.Refused text) old new status is ends = goes_on (says Scri
 halt-ends f goes halt.Failed old new status is ends = absurd is
 halt-ends f goes halt.Memory old new status is ends = no_memory_left ends.0 (quiet-same old new (ap (λ (d : Sight). d.starts) ends.1) (ap (λ (d : Sight). d.cert_out) ends.1) (ap (λ (d : Sight). d.answer) ends.1))
 
-module _ (script : List ℕ) (parts : List (List ℕ)) where
+module _ (b : Option ℕ) (script : List ℕ) (parts : List (List ℕ)) where
   abbrev Goes : Course → Type 0
-  Goes course = OfProblem (bound_of parts) script (λ p. CanJoin p (bound_of parts) parts) course
+  Goes course = OfProblem b script (λ p. CanJoin p b parts) course
 
-  pub long_ends : (o : Option (Vec ℕ Global)) (h : Halt) (old new : Sight) (status : Status) → o ≡ None → IsScriptHeld o script → IsTooLong h → HaltEnds h old new status → StartedEnds (CanJoinOn script parts) old new status
+  pub long_ends : (o : Option (Vec ℕ Global)) (h : Halt) (old new : Sight) (status : Status) → o ≡ None → IsScriptHeld o script → IsTooLong h → HaltEnds h old new status → StartedEnds (CanJoinOn b script parts) old new status
   long_ends o h old new status e held is ends =
-      halt-ends (script_fault (bound_of parts) script) Goes h old new status (long_halt (bound_of parts) script h (subst (λ (x : Option (Vec ℕ Global)). IsScriptHeld x script) e held) is) ends
+      halt-ends (script_fault b script) Goes h old new status (long_halt b script h (subst (λ (x : Option (Vec ℕ Global)). IsScriptHeld x script) e held) is) ends
 
-  -- the bound is known
-  pub faulty_ends : (b : Option ℕ) (h : Halt) (old new : Sight) (status : Status) → b ≡ bound_of parts → IsHaltOfFault (script_fault b script) h → HaltEnds h old new status → StartedEnds (CanJoinOn script parts) old new status
-  faulty_ends b h old new status e is ends =
-      halt-ends (script_fault (bound_of parts) script) Goes h old new status (subst (λ (x : Option ℕ). IsHaltOfFault (script_fault x script) h) e is) ends
+  pub faulty_ends : (h : Halt) (old new : Sight) (status : Status) → IsHaltOfFault (script_fault b script) h → HaltEnds h old new status → StartedEnds (CanJoinOn b script parts) old new status
+  faulty_ends h old new status is ends = halt-ends (script_fault b script) Goes h old new status is ends
 
-  goes-course : (b : Option ℕ) (p : Problem) → b ≡ bound_of parts → HasProblem b p script → (course : Course) → CanJoin p b parts course → CanJoinOn script parts course
-  goes-course b p e has course can =
-      let clean : script_fault (bound_of parts) script ≡ None = subst (λ (x : Option ℕ). script_fault x script ≡ None) e has.clean in
-      subst (λ (f : Option ScriptFault). CanBy f Goes course) (sym clean) (subst (λ (x : Option ℕ). OfProblem x script (λ p. CanJoin p x parts) course) e (p, has.built, can))
+  goes-course : (p : Problem) → HasProblem b p script → (course : Course) → CanJoin p b parts course → CanJoinOn b script parts course
+  goes-course p has course can = subst (λ (f : Option ScriptFault). CanBy f Goes course) (sym has.clean) (p, has.built, can)
 
-  pub problem_ends : (b : Option ℕ) (p : Problem) (old new : Sight) (status : Status) → b ≡ bound_of parts → HasProblem b p script → StartedEnds (CanJoin p b parts) old new status → StartedEnds (CanJoinOn script parts) old new status
-  problem_ends b p old new status e has ends = widen (CanJoin p b parts) (CanJoinOn script parts) old new status (λ course can. goes-course b p e has course can) ends
-
--- ---- from one sight to the same
-
-pub ends_same : (can : Course → Type 0) (old mid new : Sight) (status : Status) → mid ≡ old → StartedEnds can mid new status → StartedEnds can old new status
-ends_same can old mid new status e ends = subst (λ (d : Sight). StartedEnds can d new status) e ends
-
--- as many certificates as are counted
-pub some_of : (parts : List (List ℕ)) (count : ℕ) → length parts ≡ count → 0 < count → 0 < length parts
-some_of parts count n some = omega (arith, n, some)
+  pub problem_ends : (p : Problem) (old new : Sight) (status : Status) → HasProblem b p script → StartedEnds (CanJoin p b parts) old new status → StartedEnds (CanJoinOn b script parts) old new status
+  problem_ends p old new status has ends = widen (CanJoin p b parts) (CanJoinOn b script parts) old new status (λ course can. goes-course p has course can) ends
 
 -- a run behind its script and the starts of its certificates
 pub run_several : (words : Join) (script cert_in : List ℕ) (parts : List (List ℕ)) (x : Option (Vec ℕ Global)) (count : ℕ) (old mid new : Sight) (status : Status) → FetchesSeveral words x old mid → old.script ≡ Some script → old.parts ≡ Some parts →
-    length parts ≡ length words.certs → count ≡ length words.certs → IsJoin words →
-    ((text : List ℕ) (shown : List (List ℕ)) → IsScriptHeld x text → mid.parts ≡ Some shown → length shown ≡ count → 0 < count → StartedEnds (CanJoinOn text shown) mid new status) →
+    length parts ≡ length words.certs → count ≡ length words.certs →
+    ((text : List ℕ) (shown : List (List ℕ)) → IsScriptHeld x text → mid.parts ≡ Some shown → length shown ≡ count → StartedEnds (CanJoinOn words.bound text shown) mid new status) →
     RunEnds (Can (Some (join words)) script cert_in parts) (join_starts words) old new status
-run_several words script cert_in parts x count old mid new status fetched e f n k asked ends =
-    run_started (join_starts words) (CanJoinOn script parts) (Can (Some (join words)) script cert_in parts) old mid new status (join_draft words) fetched.after (λ tail can. (tail, can, refl))
-    (ends script parts (told_script (IsScriptHeld x) old.script script e fetched.script_is) (fetched.parts ∙ f) (n ∙ sym k) (omega (arith, k, asked.certs_least)))
+run_several words script cert_in parts x count old mid new status fetched e f n k ends =
+    run_started (join_starts words) (CanJoinOn words.bound script parts) (Can (Some (join words)) script cert_in parts) old mid new status (join_draft words) fetched.after (λ tail can. (tail, can, refl))
+    (ends script parts (told_script (IsScriptHeld x) old.script script e fetched.script_is) (fetched.parts ∙ f) (n ∙ sym k))

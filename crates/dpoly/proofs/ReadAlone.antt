@@ -1,7 +1,6 @@
 -- Certificates that are read at any place and checked, each by itself.
-use Rattle.std.proofs.Common.{◌≡◌, ◌<◌, ◌≤◌, ◌+◌, ◌-◌, inl, inr, ℕ, zero, suc, List, [], ◌∷◌, ◌++◌, Bool, true, Option, Some, None, Result, Ok, Err, IfSome, length, min, take, drop, refl, ap, sym, ◌∙◌, subst, arith, take-append-drop, length-append, length-take-le, length-drop, take-add, take-take, take_all}
+use Rattle.std.proofs.Common.{◌≡◌, ◌<◌, ◌≤◌, ◌+◌, ◌-◌, inl, inr, ℕ, zero, suc, List, [], ◌∷◌, ◌++◌, Bool, true, Option, Some, None, Result, Ok, Err, IfSome, length, take, drop, refl, ap, sym, ◌∙◌, subst, arith, take-append-drop, length-append, length-take-le, length-drop, take-add, take_all}
 use Rattle.std.specs.Prelude.{slice_get}
-use Rattle.std.proofs.lemmas.List.{take_min}
 use Rattle.std.specs.Option.{option_flatten, option_map}
 use Rattle.desk.specs.Sight.{Sight, IsFront, PartStep, part_in}
 use Rattle.poly_graph.specs.Problem.{Problem}
@@ -14,11 +13,10 @@ use Rattle.cert_check.specs.declared.fault.CertFault.{CertFault}
 use Rattle.cert_check.specs.declared.feed.Feed.{Feed}
 use Rattle.cert_check.specs.Feeding.{HasTaken, IsRefusalOrMemory, IsVerdictOfTaken, IsVerdictOrMemory}
 use Rattle.cert_check.specs.Sessions.{HasTakenSession}
-use Rattle.check_run.specs.Joined.{AreAllAccepted, IsAcceptedAlone, bound_of, head_bytes}
-use Rattle.check_run.specs.Resumed.{header_bound}
+use Rattle.check_run.specs.Joined.{AreAllAccepted, IsAcceptedAlone}
 use Rattle.check_run.specs.declared.check.Unconfirmed.{Unconfirmed}
 use Rattle.check_run.specs.declared.check.Unconfirmed.TheVariants.{Fault}
-use Rattle.dpoly.specs.Join.{HasBound, HasHead, IsFirstFault, IsFirstFaultOn, IsHead, IsToldAlone}
+use Rattle.dpoly.specs.Join.{IsFirstFault, IsFirstFaultOn, IsToldAlone}
 
 -- ---- bytes at the front of a certificate
 
@@ -182,59 +180,3 @@ module _ (p : Problem) (b : Option ℕ) (number count : ℕ) (old now new : Sigh
 
 pub none_refused : (p : Problem) (b : Option ℕ) (number count : ℕ) (old now : Sight) → AcceptedSoFar p b number count old now → count ≤ number → IsFirstFaultOn p b count old None
 none_refused p b number count old now so_far over parts e n = subst (λ (l : List (List ℕ)). AreAllAccepted p b l) (take_all number parts (omega (arith, n, over))) (so_far.accepted parts e n)
-
--- ---- the bound of the first one
-
--- some of its bytes were read
-pub record HeadSoFar (head : List ℕ) (old now : Sight) : Type 0 where
-  pub same : now ≡ old
-  pub front : IfSome (part_in 0 old) (IsFrontOf head)
-
-pub head_none : (d : Sight) → HeadSoFar [] d d
-head_none d = record { same = refl; front = front_start (part_in 0 d) }
-
-module _ (head buffer : List ℕ) (n : ℕ) (old now new : Sight) (so_far : HeadSoFar head old now) (step : PartStep 0 (length head) n buffer now new) where
-  behind-head : IfSome (part_in 0 old) (IsBehind head buffer n)
-  behind-head = subst (λ (d : Sight). IfSome (part_in 0 d) (IsBehind head buffer n)) so_far.same step.front
-
-  pub head_more : (more : List ℕ) → more ≡ head ++ take n buffer → HeadSoFar more old new
-  head_more more e = record {
-    same = step.same ∙ so_far.same;
-    front = subst (λ (l : List ℕ). IfSome (part_in 0 old) (IsFrontOf l)) (sym e) (front_step head buffer n (part_in 0 old) so_far.front behind-head step.fits);
-  }
-
-  pub head_whole : n ≡ 0 → 0 < length buffer → HasHead head old new
-  head_whole none room = record {
-    same = step.same ∙ so_far.same;
-    is = both (part_in 0 old) so_far.front (front_end head buffer n (part_in 0 old) none room so_far.front behind-head);
-  } where
-    both : (o : Option (List ℕ)) → IfSome o (IsFrontOf head) → IfSome o (λ held. head ≡ held) → IfSome o (IsHead head)
-    both None f g = tt
-    both (Some held) f g = record { within = f.0; front = f.1; enough = inr g }
-
-pub head_enough : (head : List ℕ) (old now : Sight) → HeadSoFar head old now → head_bytes ≤ length head → HasHead head old now
-head_enough head old now so_far much = record {
-  same = so_far.same;
-  is = over-some (part_in 0 old) (IsFrontOf head) (IsHead head) (λ held f. record { within = f.0; front = f.1; enough = inl much }) so_far.front;
-}
-
--- as many bytes as are searched, of what was read and of all
-same-head : (head held : List ℕ) → IsHead head held → take head_bytes head ≡ take head_bytes held
-same-head head held h = elim h.enough [
-  | inl much ↦ ap (λ (l : List ℕ). take head_bytes l) h.front ∙ take-take head_bytes (length head) held much
-  | inr e ↦ ap (λ (l : List ℕ). take head_bytes l) e
-]
-
-pub head_named : (head : List ℕ) (b : Option ℕ) (old new : Sight) → HasHead head old new → b ≡ header_bound (take head_bytes head) → HasBound b old new
-head_named head b old new h e = record { same = h.same; named = λ parts f some. named-by parts f some } where
-  named-by : (parts : List (List ℕ)) → old.parts ≡ Some parts → 0 < length parts → b ≡ bound_of parts
-  named-by [] f some = absurd (omega (arith, some))
-  named-by (first ∷ others) f some = e ∙ ap header_bound (same-head head first (told-there (IsHead head) 0 old (first ∷ others) first f refl h.is))
-
--- as many bytes as are searched
-pub head_taken : (head bytes : List ℕ) (n k : ℕ) → bytes ≡ head → n ≡ length head → k ≡ min n head_bytes → take k bytes ≡ take head_bytes head
-head_taken head bytes n k e f g =
-    let same : k ≡ min head_bytes (length head) = g ∙ ap (λ (m : ℕ). min m head_bytes) f ∙ min-swap (length head) in
-    ap (λ (l : List ℕ). take k l) e ∙ ap (λ (m : ℕ). take m head) same ∙ take_min head_bytes head where
-      min-swap : (m : ℕ) → min m head_bytes ≡ min head_bytes m
-      min-swap m = omega arith

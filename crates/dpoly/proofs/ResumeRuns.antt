@@ -7,6 +7,7 @@ use Rattle.command_line.specs.Words.{Resume}
 use Rattle.poly_graph.specs.Problem.{Problem}
 use Rattle.script_fault.specs.declared.fault.ScriptFault.{ScriptFault}
 use Rattle.script_reading.specs.Faults.{most_bytes, script_fault}
+use Rattle.script_reading.specs.Reader.{HasProblem}
 use Rattle.check_run.specs.declared.script.Halt.{Halt}
 use Rattle.check_run.specs.declared.script.Halt.TheVariants as halt
 use Rattle.check_run.specs.declared.status.Status.{Status}
@@ -14,10 +15,9 @@ use Rattle.check_run.specs.declared.status.Status.TheVariants.{ScriptRefused}
 use Rattle.check_run.specs.Both.{CanGoOn, IsScriptHeld}
 use Rattle.check_run.specs.Can.{CanBy, OfProblem}
 use Rattle.check_run.specs.Course.{Course, Quiet, RunEnds, says, on_course, no_memory_yet}
-use Rattle.check_run.specs.Resumed.{CanResume, header_bound}
+use Rattle.check_run.specs.Resumed.{CanResume}
 use Rattle.check_run.specs.Script.{HaltEnds, IsHaltOfFault, IsTooLong}
 use Rattle.check_run.proofs.Ending.{appended-nil, widen}
-use Rattle.dpoly.specs.Resume.{IsAsked, IsNotAsked}
 use Rattle.dpoly.proofs.Halting.{by_text, long_halt}
 
 -- nothing was done
@@ -38,16 +38,15 @@ module _ (words : Resume) (cert : List ℕ) (old new : Sight) (status : Status) 
   pub long-ends : (o : Option (Vec ℕ Global)) (script : List ℕ) (h : Halt) → o ≡ None → IsScriptHeld o script → IsTooLong h → HaltEnds h old new status → RunEnds (CanGoOn words script cert) [] old new status
   long-ends o script h e held is ends =
       let long : most_bytes < length script = subst (λ (x : Option (Vec ℕ Global)). IsScriptHeld x script) e held in
-      halt-ends (script_fault (header_bound cert) script) (OfProblem (header_bound cert) script (λ p. CanResume p (header_bound cert) words cert)) h old new status (long_halt (header_bound cert) script h long is) ends
+      halt-ends (script_fault words.bound script) (OfProblem words.bound script (λ p. CanResume p words.bound words cert)) h old new status (long_halt words.bound script h long is) ends
 
-  pub unasked-ends : (script : List ℕ) (h : Halt) → IsNotAsked script cert h → HaltEnds h old new status → RunEnds (CanGoOn words script cert) [] old new status
-  unasked-ends script h is ends = halt-ends (script_fault (header_bound cert) script) (OfProblem (header_bound cert) script (λ p. CanResume p (header_bound cert) words cert)) h old new status is ends
+  pub unasked-ends : (script : List ℕ) (h : Halt) → IsHaltOfFault (script_fault words.bound script) h → HaltEnds h old new status → RunEnds (CanGoOn words script cert) [] old new status
+  unasked-ends script h is ends = halt-ends (script_fault words.bound script) (OfProblem words.bound script (λ p. CanResume p words.bound words cert)) h old new status is ends
 
-  asked-course : (script : List ℕ) (p : Problem) (b : Option ℕ) → IsAsked script cert p b → (course : Course) → CanResume p b words cert course → CanGoOn words script cert course
-  asked-course script p b is course can =
-      let clean : script_fault (header_bound cert) script ≡ None = subst (λ (x : Option ℕ). script_fault x script ≡ None) is.0 is.1.clean in
-      let goes = OfProblem (header_bound cert) script (λ p. CanResume p (header_bound cert) words cert) in
-      subst (λ (f : Option ScriptFault). CanBy f goes course) (sym clean) (subst (λ (x : Option ℕ). OfProblem x script (λ p. CanResume p x words cert) course) is.0 (p, is.1.built, can))
+  asked-course : (script : List ℕ) (p : Problem) → HasProblem words.bound p script → (course : Course) → CanResume p words.bound words cert course → CanGoOn words script cert course
+  asked-course script p has course can =
+      let goes = OfProblem words.bound script (λ p. CanResume p words.bound words cert) in
+      subst (λ (f : Option ScriptFault). CanBy f goes course) (sym has.clean) (p, has.built, can)
 
-  pub asked-ends : (script : List ℕ) (p : Problem) (b : Option ℕ) → IsAsked script cert p b → RunEnds (CanResume p b words cert) [] old new status → RunEnds (CanGoOn words script cert) [] old new status
-  asked-ends script p b is ends = widen (CanResume p b words cert) (CanGoOn words script cert) [] old new status (λ course can. asked-course script p b is course can) ends
+  pub asked-ends : (script : List ℕ) (p : Problem) → HasProblem words.bound p script → RunEnds (CanResume p words.bound words cert) [] old new status → RunEnds (CanGoOn words script cert) [] old new status
+  asked-ends script p has ends = widen (CanResume p words.bound words cert) (CanGoOn words script cert) [] old new status (λ course can. asked-course script p has course can) ends

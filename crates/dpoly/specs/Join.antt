@@ -1,10 +1,10 @@
 -- Certificates that are joined, or checked each by itself.
-use Rattle.std.specs.Prelude.{◌≡◌, ◌⊎◌, ◌<◌, ◌≤◌, ℕ, List, [], Option, Some, None, Result, Ok, Err, IfSome, Vec, length, take}
+use Rattle.std.specs.Prelude.{◌≡◌, ◌⊎◌, ℕ, List, [], Option, Some, None, Result, Ok, Err, Vec, length}
 use Rattle.std.specs.declared.alloc.Global.{Global}
 use Rattle.std.specs.declared.alloc.AllocError.{AllocError}
 use Rattle.desk.specs.declared.desk.Port.TheVariants.{Part}
 use Rattle.desk.specs.Draft.{IsDrafted}
-use Rattle.desk.specs.Sight.{Sight, FailsOn, part_in}
+use Rattle.desk.specs.Sight.{Sight, FailsOn}
 use Rattle.poly_graph.specs.Problem.{Problem}
 use Rattle.cover_model.specs.State.{Loosenings}
 use Rattle.cert_model.specs.Due as due
@@ -24,7 +24,7 @@ use Rattle.check_run.specs.declared.check.Unconfirmed.TheVariants.{Fault, Failed
 use Rattle.check_run.specs.declared.status.Status.{Status}
 use Rattle.check_run.specs.declared.status.Status.TheVariants.{CertRefused, NoMemory}
 use Rattle.check_run.specs.Course.{Course, StartedEnds, says}
-use Rattle.check_run.specs.Joined.{AreAllAccepted, CanJoin, IsFirstRefused, bound_of, head_bytes}
+use Rattle.check_run.specs.Joined.{AreAllAccepted, CanJoin, IsFirstRefused}
 use Rattle.check_run.specs.Several.{IsHalted}
 use Rattle.dpoly.specs.declared.join.Joint.{Joint}
 use Rattle.dpoly.specs.declared.join.Joint.TheVariants.{Whole, Dropped, Apart, Refused}
@@ -55,22 +55,6 @@ IsFirstFault p b parts (Some (k, f)) = (f ≡ Memory) ⊎ ((g : due.CertFault) �
 -- so it is where the desk shows so many
 abbrev pub IsFirstFaultOn : Problem → Option ℕ → ℕ → Sight → Option (ℕ × CertFault) → Type 0
 IsFirstFaultOn p b count d x = (parts : List (List ℕ)) → d.parts ≡ Some parts → length parts ≡ count → IsFirstFault p b parts x
-
--- these bytes stand at the front of a certificate, and are all of it or as many as are searched for its bound
-pub record IsHead (head held : List ℕ) : Type 0 where
-  pub within : length head ≤ length held
-  pub front : head ≡ take (length head) held
-  pub enough : (head_bytes ≤ length head) ⊎ (head ≡ held)
-
--- those of the first certificate were read, and nothing else done
-pub record HasHead (head : List ℕ) (old new : Sight) : Type 0 where
-  pub same : new ≡ old
-  pub is : IfSome (part_in 0 old) (IsHead head)
-
--- it is the bound that the first certificate names, which was read, and nothing else done
-pub record HasBound (b : Option ℕ) (old new : Sight) : Type 0 where
-  pub same : new ≡ old
-  pub named : (parts : List (List ℕ)) → old.parts ≡ Some parts → 0 < length parts → b ≡ bound_of parts
 
 -- ---- certificates that are joined
 

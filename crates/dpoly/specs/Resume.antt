@@ -12,11 +12,7 @@ use Rattle.cert_base.specs.Base.{IsBase}
 use Rattle.cert_resume.specs.Answer.{TellsOfOwn}
 use Rattle.cert_resume.specs.declared.answer.Cover.{Cover}
 use Rattle.cert_resume.specs.declared.request.Request.{Request}
-use Rattle.script_reading.specs.Faults.{script_fault}
-use Rattle.script_reading.specs.Reader.{HasProblem}
-use Rattle.check_run.specs.declared.script.Halt.{Halt}
-use Rattle.check_run.specs.Resumed.{IsMore, header_bound, share_of, share_text}
-use Rattle.check_run.specs.Script.{IsHaltOfFault}
+use Rattle.check_run.specs.Resumed.{IsMore, share_of, share_text}
 use Rattle.dpoly.specs.declared.answers.SearchAnswer.{SearchAnswer}
 
 -- what the words ask of the search
@@ -47,10 +43,3 @@ IsSomeBase p base = (bytes : List ℕ) × IsBase p base.bound bytes base
 -- the text of the answer, of whatever states the cover tells of, at this margin
 abbrev pub SaysShare : Problem → Resume → ℕ → Cover → List ℕ → Type 0
 SaysShare p words margin_bits x text = (s : Loosenings) → s.margin_bits ≡ margin_bits → (own : List Standing) → TellsOfOwn x.own own → text ≡ share_text p words.budget (share_of words) s own x.others
-
--- the problem of the script's only check, where the certificate names the bound, or why there is none
-abbrev pub IsAsked : List ℕ → List ℕ → Problem → Option ℕ → Type 0
-IsAsked script cert p b = (b ≡ header_bound cert) × HasProblem b p script
-
-abbrev pub IsNotAsked : List ℕ → List ℕ → Halt → Type 0
-IsNotAsked script cert h = IsHaltOfFault (script_fault (header_bound cert) script) h

@@ -1,55 +1,16 @@
 // Certificates that are read at any place and checked, each by itself.
-ghost use Rattle.std.specs.Prelude.{◌≡◌, [], IfOk, IfSome, MatchResult, Ok};
+ghost use Rattle.std.specs.Prelude.{◌≡◌, [], IfOk, IfSome, MatchResult};
 ghost use Rattle.desk.specs.Sight.{part_in};
 ghost use Rattle.poly_graph.specs.ProblemViews.{problem_of};
 ghost use Rattle.cert_model.specs.Accepted.{verdict};
 ghost use Rattle.cert_check.specs.Feeding.{HasTaken};
-ghost use Rattle.dpoly.specs.Join.{HasBound, HasHead, IsFirstFaultOn, IsReadAlone, IsToldAlone, IsUnread};
+ghost use Rattle.dpoly.specs.Join.{IsFirstFaultOn, IsReadAlone, IsToldAlone, IsUnread};
 
 use cert_check::{CertFault, Feed};
-use check_run::{ROOM, Unconfirmed, Unread, header_bound};
+use check_run::{ROOM, Unconfirmed, Unread};
 use desk::Desk;
 use poly_graph::Problem;
 use std::alloc::Global;
-
-// The first bytes of the first certificate, as many as are searched for its bound or more; all, where it has fewer.
-fn read_head<D: Desk>(alloc: Global, desk: &mut D) -> Result<Vec<u8>, Unread>
-    ensures { MatchResult result
-        (λ head. HasHead head.items (D.sight desk.old) (D.sight desk.new))
-        (λ e. IsUnread e (D.sight desk.old) (D.sight desk.new)) }
-{
-    let mut head = Vec::new(alloc);
-    let mut buffer = [0u8; ROOM];
-    while head.len() < ROOM {
-        let n = match desk.read_at(0, head.len() as u64, &mut buffer) {
-            Ok(n) => n,
-            Err(_) => return Err(Unread::Failed),
-        };
-        if n == 0 {
-            return Ok(head);
-        }
-        match head.extend_from_slice(&buffer[..n]) {
-            Ok(()) => {}
-            Err(_) => return Err(Unread::Memory),
-        }
-    }
-    Ok(head)
-}
-
-/// The bound that the first certificate names in its first 64 KiB.
-pub fn head_bound<D: Desk>(alloc: Global, desk: &mut D) -> Result<Option<u32>, Unread>
-    ensures { MatchResult result
-        (λ b. HasBound b (D.sight desk.old) (D.sight desk.new))
-        (λ e. IsUnread e (D.sight desk.old) (D.sight desk.new)) }
-{
-    match read_head(alloc, desk) {
-        Ok(head) => match header_bound(alloc, &head[..head.len().min(ROOM)]) {
-            Ok(bound) => Ok(bound),
-            Err(_) => Err(Unread::Memory),
-        },
-        Err(unread) => Err(unread),
-    }
-}
 
 // The verdict of a certificate, by a feed that was fed nothing; it is read up to its first fault.
 fn verdict_by<D: Desk>(

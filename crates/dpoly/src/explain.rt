@@ -4,6 +4,7 @@ use crate::located::assertion_with;
 use check_run::Status;
 use command_line::{JoinWords, Request, read_words, usage_text};
 use file_desk::{FileDesk, Messages};
+use root_notes::say_conditional_roots;
 use std::alloc::Global;
 
 // The messages of a run on one script and one certificate.
@@ -84,26 +85,18 @@ const HINTS: [(bool, &str, &str); 5] = [
 ];
 
 // What would help with a script that is refused, by how the answer begins.
-const SCRIPT_HINTS: [(&str, &str); 5] = [
+const SCRIPT_HINTS: [(&str, &str); 3] = [
     (
         "script fault 9 ",
-        "where the constants lie between their bounds a divisor of this quotient may be 0, or it holds an `ite` or a root. Tighter bounds of its constants may help",
+        "where the constants lie between their bounds a divisor of this quotient may be 0, also where a condition around the quotient does not hold, or it holds an `ite` or a root. Tighter bounds of its constants may help",
     ),
     (
-        "script fault 12 BoundTooWide |sqrt(",
+        "script fault 12 BoundTooWide sqrt(",
         "where the constants lie between their bounds the argument of this root has no upper end, or one that is too large. Tighter bounds of its constants may help",
     ),
     (
-        "script fault 12 BoundTooWide |quotient(",
+        "script fault 12 BoundTooWide quotient(",
         "where the constants lie between their bounds this quotient has an end that is too large. Tighter bounds of its constants may help",
-    ),
-    (
-        "script fault 8 Redeclared |sqrt(",
-        "a constant of this name stands for a root of the script",
-    ),
-    (
-        "script fault 8 Redeclared |quotient(",
-        "a constant of this name stands for a quotient of the script",
     ),
 ];
 
@@ -232,13 +225,36 @@ fn script_hint(rt: &HostRuntime, desk: &FileDesk) {
     }
 }
 
+// Whether the words name a script.
+fn names_script(alloc: Global, words: &[String]) -> bool {
+    match read_words(alloc, words) {
+        Ok(Request::Demo(_)) | Err(_) => false,
+        _ => true,
+    }
+}
+
+// Says which roots of the script stand under conditions.
+fn show_roots(rt: &HostRuntime, words: &[String], messages: &Messages<'_>, desk: &FileDesk) {
+    if !names_script(rt.alloc(), words) {
+        return;
+    }
+    if let Some(script) = messages.script_text(rt, desk) {
+        say_conditional_roots(rt, "dpoly", &script);
+    }
+}
+
 /// Says on standard error why the run of these words gave no answer: which word is wrong, or the help; which file could
-/// not be read or written; where the script, or the certificate, is refused. Behind an answer that leaves a question open
-/// it says what would help.
+/// not be read or written; where the script, or the certificate, is refused. Behind an answer it says which roots of the
+/// script stand under conditions, behind one that leaves a question open what would help, and behind each the numbers of
+/// its point, box or bounds as decimals.
 pub fn explain(rt: &HostRuntime, words: &[String], desk: &FileDesk, status: Status) {
     let messages = messages_of(rt.alloc(), words, desk.answer());
     match status {
-        Status::Answered => hint(rt, &messages, desk, asks_least(rt.alloc(), words)),
+        Status::Answered => {
+            show_roots(rt, words, &messages, desk);
+            hint(rt, &messages, desk, asks_least(rt.alloc(), words));
+            messages.decimals(rt, desk);
+        }
         Status::Usage => {
             if let Ok(text) = usage_text(rt.alloc(), words) {
                 let _ = rt.eprint(text);
@@ -248,7 +264,10 @@ pub fn explain(rt: &HostRuntime, words: &[String], desk: &FileDesk, status: Stat
             messages.script_refused(rt, desk);
             script_hint(rt, desk);
         }
-        Status::CertRefused => messages.cert_refused(rt, desk),
+        Status::CertRefused => {
+            messages.cert_refused(rt, desk);
+            show_roots(rt, words, &messages, desk);
+        }
         Status::InFailed | Status::OutFailed => messages.port_failed(rt, desk),
         Status::NoMemory => messages.no_memory(rt),
     }

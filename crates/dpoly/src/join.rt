@@ -1,5 +1,5 @@
 // `join`, from a script and several certificates to one.
-ghost use Rattle.std.specs.Prelude.{◌≡◌, ◌<◌, ℕ, List, [], Err, MatchResult, Some, length};
+ghost use Rattle.std.specs.Prelude.{◌≡◌, ℕ, List, [], Err, MatchResult, Some, length};
 ghost use Rattle.desk.specs.Draft.{IsBegun};
 ghost use Rattle.poly_graph.specs.ProblemViews.{problem_of};
 ghost use Rattle.cert_check.specs.Feeding.{HasTaken};
@@ -9,7 +9,7 @@ ghost use Rattle.check_run.specs.Run.{JoinHasCause};
 ghost use Rattle.check_run.specs.Several.{CanJoinOn};
 ghost use Rattle.dpoly.specs.Join.{EndsAccepted, EndsOnJoin, EndsOnJoint, EndsRefused, HaltsJoining, IsDraftedJoint, IsToldJoint};
 
-use crate::alone::{first_fault, head_bound};
+use crate::alone::first_fault;
 use cert_check::{CertFault, Feed, Verdict};
 use cert_join::{Place, Stop, join};
 use check_run::{
@@ -196,22 +196,19 @@ pub fn join_inputs<D: Desk>(
     alloc: Global,
     desk: &mut D,
     script: &Option<Vec<u8>>,
+    bound: Option<u32>,
     count: usize,
 ) -> Status
     requires begun { IsBegun (D.sight desk.old) }
     ensures ends { (text : List ℕ) (parts : List (List ℕ)) → IsScriptHeld script.now text →
-        (D.sight desk.old).parts ≡ Some parts → length parts ≡ count → 0 < count →
-        StartedEnds (CanJoinOn text parts) (D.sight desk.old) (D.sight desk.new) result }
+        (D.sight desk.old).parts ≡ Some parts → length parts ≡ count →
+        StartedEnds (CanJoinOn bound text parts) (D.sight desk.old) (D.sight desk.new) result }
     ensures cause { JoinHasCause (D.sight desk.old) (D.sight desk.new) result }
     ensures script { (D.sight desk.new).script ≡ (D.sight desk.old).script }
 {
     let script = match script {
         Some(script) => script,
         None => return end_halted(desk, too_long(alloc)),
-    };
-    let bound = match head_bound(alloc, desk) {
-        Ok(bound) => bound,
-        Err(unread) => return unread.status(),
     };
     match read_problem(alloc, script, bound) {
         Ok(problem) => join_problem(alloc, desk, &problem, bound, count),

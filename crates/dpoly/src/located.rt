@@ -130,13 +130,9 @@ fn last_before(
     Ok(rest.first().copied())
 }
 
-// Whether a name is one of a constant that stands for a root or a quotient.
+// Whether a name is one of a constant that stands for a root or a quotient: it has a bar, as no name of a script.
 fn stands_for_tree(name: &[u8]) -> bool {
-    match name {
-        [b's', b'q', b'r', b't', b'(', ..] => true,
-        [b'q', b'u', b'o', b't', b'i', b'e', b'n', b't', b'(', ..] => true,
-        _ => false,
-    }
+    matches!(name, [b'|', ..])
 }
 
 // Whether constants stand for roots and quotients of the script: its atoms do not stand in its order then.

@@ -1,6 +1,7 @@
 // The program: reads the words of the call, and hands them with the real ports to `run_top`.
 #![tactic(auto)]
 
+mod ahead;
 mod alone;
 mod answers;
 mod auto;
@@ -19,6 +20,7 @@ mod top;
 mod upgrade;
 mod walk;
 
+use ahead::is_refused;
 use auto::resolve_workers;
 pub use check_run::Status;
 use explain::explain;
@@ -39,6 +41,9 @@ fn main(rt: HostRuntime) -> ExitCode {
     }
     if let Err(status) = resolve_lists(&rt, &mut words) {
         return ExitCode::from(status.code());
+    }
+    if is_refused(&rt, &words) {
+        return ExitCode::from(Status::OutFailed.code());
     }
     let gate = Progress::new(rt);
     let status = run_top(&rt, rt.alloc(), &words, &mut desk, &gate);

@@ -5,14 +5,16 @@ ghost use Rattle.command_line.specs.Seen.{seen_resume};
 ghost use Rattle.command_line.specs.Words.{IsResume, Resume as Asked};
 ghost use Rattle.poly_graph.specs.ProblemViews.{problem_of};
 ghost use Rattle.poly_graph.specs.Problem.{Problem as Question};
+ghost use Rattle.script_reading.specs.Faults.{script_fault};
+ghost use Rattle.script_reading.specs.Reader.{HasProblem};
 ghost use Rattle.cert_base.specs.Base.{IsBase};
 ghost use Rattle.cert_upgrade.specs.Upgraded.{upgraded};
 ghost use Rattle.check_run.specs.Both.{CanGoOn, IsScriptHeld};
 ghost use Rattle.check_run.specs.Course.{RunEnds};
 ghost use Rattle.check_run.specs.Resumed.{CanResume};
 ghost use Rattle.check_run.specs.Run.{ResumeHasCause, SameIn};
-ghost use Rattle.check_run.specs.Script.{IsWithin};
-ghost use Rattle.dpoly.specs.Resume.{IsAsked, IsNotAsked, IsSomeBase, IsToldMore, SaysShare, TellsMore, request_of};
+ghost use Rattle.check_run.specs.Script.{IsHaltOfFault, IsWithin};
+ghost use Rattle.dpoly.specs.Resume.{IsSomeBase, IsToldMore, SaysShare, TellsMore, request_of};
 
 use crate::answers::SearchAnswer;
 use crate::leaf::Engine;
@@ -21,9 +23,7 @@ use cert_base::{Base, Read, read_base};
 use cert_check::CertFault;
 use cert_resume::{Cover, Own, Request, Resumed, Share};
 use cert_upgrade::upgrade;
-use check_run::{
-    Halt, Inputs, Status, end_halted, finish, header_bound, refusal, refuse, too_long,
-};
+use check_run::{Halt, Inputs, Status, end_halted, finish, refusal, refuse, too_long};
 use command_line::ResumeWords;
 use desk::Desk;
 use poly_graph::Problem;
@@ -139,18 +139,15 @@ fn resumed<R: Threads + Wait + Sync, G: Gate + Sync>(
     }
 }
 
-// The problem of the script's only check, with the bound that the certificate names.
-fn asked_of(alloc: Global, script: &[u8], cert: &[u8]) -> Result<(Problem, Option<u32>), Halt>
+// The problem of the script's only check, or why there is none.
+fn asked_of(alloc: Global, script: &[u8], bound: Option<u32>) -> Result<Problem, Halt>
     ensures question { MatchResult result
-        (λ x. IsAsked script.now cert.now (problem_of x.0) x.1)
-        (λ halt. IsNotAsked script.now cert.now halt) }
-    ensures within { IfOk result (λ x. IsWithin x.0) }
+        (λ problem. HasProblem bound (problem_of problem) script.now)
+        (λ halt. IsHaltOfFault (script_fault bound script.now) halt) }
+    ensures within { IfOk result (λ problem. IsWithin problem) }
 {
-    let Ok(bound) = header_bound(alloc, cert) else {
-        return Err(Halt::Memory);
-    };
     match read_problem(alloc, script, bound) {
-        Ok(problem) => Ok((problem, bound)),
+        Ok(problem) => Ok(problem),
         Err(error) => Err(refusal(alloc, &error)),
     }
 }
@@ -194,9 +191,9 @@ pub fn resume_inputs<R: Threads + Wait + Sync, D: Desk, G: Gate + Sync>(
         Some(script) => script,
         None => return end_halted(desk, too_long(alloc)),
     };
-    match asked_of(alloc, script, &inputs.cert) {
-        Ok((problem, bound)) => {
-            let told = resumed(engine, alloc, &problem, bound, &inputs.cert, asked);
+    match asked_of(alloc, script, asked.bound) {
+        Ok(problem) => {
+            let told = resumed(engine, alloc, &problem, asked.bound, &inputs.cert, asked);
             end_resumed(alloc, desk, asked.out, told)
         }
         Err(halt) => end_halted(desk, halt),

@@ -1,7 +1,7 @@
 // The run of the whole program.
 ghost use Rattle.std.specs.Prelude.{◌≡◌, None};
-ghost use Rattle.command_line.specs.Words.{AreOptions, IsDemo, IsInRange, IsJoin, IsMinimize, IsPlan, IsResume};
-ghost use Rattle.command_line.specs.Seen.{seen, seen_demo, seen_join, seen_minimize, seen_plan, seen_resume};
+ghost use Rattle.command_line.specs.Words.{AreOptions, IsDemo, IsInRange, IsMinimize, IsPlan, IsResume};
+ghost use Rattle.command_line.specs.Seen.{seen, seen_demo, seen_minimize, seen_plan, seen_resume};
 ghost use Rattle.check_run.specs.Run.{asked_run, CertIsRead, command_in, demo_run, HasCause, HasCourse, join_run, minimize_run, plan_run, resume_run, run, SameIn, ScriptIsRead, solve_run, StatusIsDue, StatusIsShown, upgrade_run};
 ghost use Rattle.check_run.specs.Headline.{AnswersAreTrue, DeltaSatIsTrue, PlanIsTrue, RefusalIsTrue, UnsatIsTrue, UpgradeIsTrue};
 
@@ -147,14 +147,13 @@ fn run_resume<R: Threads + Wait + Sync, D: Desk, G: Gate + Sync>(
 
 // Makes one certificate of several.
 fn run_join<D: Desk>(alloc: Global, desk: &mut D, asked: JoinWords<'_>) -> Status
-    requires { IsJoin (seen_join asked) }
     ensures cause { HasCause (join_run asked.entry (D.sight desk.old) (D.sight desk.new) result) }
     ensures script { ScriptIsRead
         (join_run asked.entry (D.sight desk.old) (D.sight desk.new) result) }
     ensures course { HasCourse (join_run asked.entry (D.sight desk.old) (D.sight desk.new) result) }
 {
     match fetch_several(alloc, desk, &asked) {
-        Ok(script) => join_inputs(alloc, desk, &script, asked.certs.len()),
+        Ok(script) => join_inputs(alloc, desk, &script, asked.bound, asked.certs.len()),
         Err(status) => status,
     }
 }

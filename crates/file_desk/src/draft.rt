@@ -1,13 +1,15 @@
 // The names of a certificate that is written in pieces.
-use crate::parts::Parts;
 use std::fs::File;
 use std::io::ErrorKind;
 use std::{fs, io};
 
-/// What stands behind a certificate's name in that of its draft, in the same folder.
+/// What stands behind a certificate's name in that of its draft, in the same folder, before the draft's number.
 const SUFFIX: &str = ".part";
 
-/// The name that a draft takes when it is kept, and the one that it has until then.
+/// So many names are tried.
+const MOST_NAMES: u32 = 1000;
+
+/// The name that a draft takes when it is kept, and the one that it has until then, which is its own.
 #[derive(Drop)]
 pub struct Draft {
     name: String,
@@ -15,26 +17,24 @@ pub struct Draft {
 }
 
 impl Draft {
-    /// The draft of the certificate with this name. Refused where something else than a plain file has the name, and
-    /// where the draft would take the place of a certificate that is read.
-    pub fn of(rt: &HostRuntime, name: &str, parts: &Parts) -> Result<Draft, io::Error> {
+    /// A draft of the certificate with this name, and its file, which is made anew: no file that is there is opened, and
+    /// no link is followed. Refused where something else than a plain file has the name.
+    pub fn create(rt: &HostRuntime, name: &str) -> Result<(Draft, File), io::Error> {
         if name == "-" || fs::metadata(rt, name).is_ok_and(|found| !found.is_file()) {
             let refused = "it is written as a draft first, which takes a plain file's name only";
             return Err(io::Error::new(ErrorKind::InvalidInput, refused));
         }
-        let mut path = name.to_string(rt.alloc())?;
-        path.push_str(SUFFIX)?;
-        if fs::metadata(rt, &path).is_ok_and(|found| parts.has(&found)) {
-            let refused = "its draft, with .part behind the name, is a certificate that is read";
-            return Err(io::Error::new(ErrorKind::InvalidInput, refused));
-        }
         let name = name.to_string(rt.alloc())?;
-        Ok(Draft { name, path })
-    }
-
-    /// The draft's file, empty.
-    pub fn create(&self, rt: &HostRuntime) -> Result<File, io::Error> {
-        fs::create(rt, &self.path)
+        for number in 1..=MOST_NAMES {
+            let path = format!(in rt.alloc(); "{name}{SUFFIX}{number}")?;
+            match File::create_new(rt, &path) {
+                Ok(file) => return Ok((Draft { name, path }, file)),
+                Err(error) if error.kind() == ErrorKind::AlreadyExists => {}
+                Err(error) => return Err(error),
+            }
+        }
+        let refused = "too many drafts of it were left in its folder";
+        Err(io::Error::new(ErrorKind::AlreadyExists, refused))
     }
 
     /// The draft takes its name.

@@ -358,8 +358,8 @@ impl FileDesk {
         ensures in_faults { self.new.in_faults ≡ self.old.in_faults }
         ensures out_faults { self.new.out_faults ≡ self.old.out_faults }
     {
-        let draft = Draft::of(&self.rt, name, &self.parts)?;
-        self.draft_out = Sink::File(draft.create(&self.rt)?);
+        let (draft, file) = Draft::create(&self.rt, name)?;
+        self.draft_out = Sink::File(file);
         self.draft = Some(draft);
         Ok(())
     }

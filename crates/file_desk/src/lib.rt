@@ -5,9 +5,12 @@
 //! what standard error shows.
 #![tactic(auto)]
 
+mod decimals;
 mod draft;
 mod files;
+mod hints;
 mod messages;
+mod outputs;
 mod parts;
 mod reading;
 mod ticker;
@@ -15,5 +18,6 @@ mod words;
 
 pub use files::{FileDesk, Trouble};
 pub use messages::{Messages, printable};
+pub use outputs::{is_same_file, try_to_write};
 pub use ticker::Ticker;
 pub use words::words_of;

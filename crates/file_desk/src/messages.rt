@@ -1,13 +1,18 @@
 // What standard error says of a run that gave no answer: for people to read, and promised by no clause.
 ghost use Rattle.std.specs.Prelude.{◌<◌};
 
+use crate::decimals::decimals_of;
 use crate::files::FileDesk;
+use crate::hints::hint_for;
 use desk::Port;
 use std::alloc::{AllocError, Global};
-use std::fs;
+use std::{fs, io};
 
 /// At most so many bytes of a script's line are shown.
 const WINDOW: usize = 100;
+
+/// At most so many lines of an answer are said again as decimals.
+const MOST_LINES: usize = 32;
 
 /// Where a script is refused: the line and the column, in bytes, both from 1.
 #[derive(Clone, Copy, Debug, PartialEq, Eq)]
@@ -31,6 +36,14 @@ fn line_at(script: &[u8], number: usize) -> Option<&[u8]>
     requires { 0 < number }
 {
     script.split(|byte| *byte == b'\n').nth(number - 1)
+}
+
+// What stands in the script from the place to the end of its line.
+fn text_at(script: &[u8], at: Spot) -> &[u8] {
+    match line_at(script, at.line.max(1)) {
+        Some(line) => line.get(at.column.saturating_sub(1)..).unwrap_or(&[]),
+        None => &[],
+    }
 }
 
 // What stands for a byte of a script, so that each takes one column.
@@ -161,15 +174,68 @@ impl<'a> Messages<'a> {
         }
     }
 
-    /// Says which script is refused, for what, and shows its line.
+    // Shows the place of a fault in the script, and answers what stands there.
+    fn place_shown<'s>(&self, rt: &HostRuntime, script: &'s [u8], at: Spot) -> &'s [u8] {
+        self.show_place(rt, script, at.line, at.column);
+        text_at(script, at)
+    }
+
+    // Says what would help with the script that is refused by this answer, with this at the answer's place in it.
+    fn help(&self, rt: &HostRuntime, answer: &str, behind: &[u8]) {
+        if let Some(help) = hint_for(answer, behind) {
+            let program = self.program;
+            let _ = eprintln!(rt; "{program}: {help}");
+        }
+    }
+
+    /// Says which script is refused, for what, shows its line, and says what would help.
     pub fn script_refused(&self, rt: &HostRuntime, desk: &FileDesk) {
         let text = desk.answer();
         self.say(rt, source(self.script), text);
         let Some(at) = spot_in(text) else {
+            self.help(rt, text, &[]);
             return;
         };
         if let Some(script) = self.script_text(rt, desk) {
-            self.show_place(rt, &script, at.line, at.column);
+            let behind = self.place_shown(rt, &script, at);
+            self.help(rt, text, behind);
+        }
+    }
+
+    // Says the numbers of a line of an answer as decimals: of an axis of a point, or of a box, or a bound of a least value.
+    fn line_as_decimals(&self, rt: &HostRuntime, line: &str) -> Result<(), AllocError> {
+        let Some((rest, last)) = line.rsplit_once(' ') else {
+            return Ok(());
+        };
+        let Some(upper) = decimals_of(rt.alloc(), last)? else {
+            return Ok(());
+        };
+        let program = self.program;
+        let _ = match rest.rsplit_once(' ') {
+            Some((name, first)) => match decimals_of(rt.alloc(), first)? {
+                Some(lower) => {
+                    let name = printable(rt.alloc(), name)?;
+                    eprintln!(rt; "{program}: {name} from {lower} to {upper}")
+                }
+                None => self.say_decimal(rt, rest, &upper),
+            },
+            None => self.say_decimal(rt, rest, &upper),
+        };
+        Ok(())
+    }
+
+    fn say_decimal(&self, rt: &HostRuntime, name: &str, value: &str) -> io::Result<()> {
+        let program = self.program;
+        let name = printable(rt.alloc(), name)?;
+        eprintln!(rt; "{program}: {name} = {value}")
+    }
+
+    /// Says the numbers of an answer as decimals, those of its first lines, behind which margins and deltas are left out.
+    pub fn decimals(&self, rt: &HostRuntime, desk: &FileDesk) {
+        for line in desk.answer().lines().take(MOST_LINES) {
+            if !line.starts_with("margin ") && !line.starts_with("delta ") {
+                let _ = self.line_as_decimals(rt, line);
+            }
         }
     }
 

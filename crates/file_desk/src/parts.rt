@@ -169,14 +169,4 @@ impl Parts {
             None => None,
         }
     }
-
-    /// Whether a file is that of a certificate.
-    pub fn has(&self, metadata: &Metadata) -> bool {
-        for part in &self.parts {
-            if part.stamp.device == metadata.dev() && part.stamp.node == metadata.ino() {
-                return true;
-            }
-        }
-        false
-    }
 }

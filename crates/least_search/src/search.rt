@@ -303,6 +303,21 @@ fn bounds_of(
     })
 }
 
+// Better points near the first one, unless that search spent the budget: then no search follows, and the point stays as it was
+// found.
+fn begin_low(alloc: Global, aim: &mut Aim<'_>, bounds: &mut Bounds) -> Result<(), AllocError>
+    requires ready { IsReady aim.old }
+    requires bounds { AreBoundsOf aim.old bounds.old }
+    ensures ready { IsReady aim.new }
+    ensures same { IsSameAim aim.old aim.new }
+    ensures bounds { AreBoundsOf aim.old bounds.new }
+{
+    if 0 < bounds.budget {
+        return go_down(alloc, aim, bounds);
+    }
+    Ok(())
+}
+
 // Better and better bounds, from a point of the first search and the rest of the budget on.
 fn find<F: Fn(Global, &Problem, &Options) -> Result<Book, AllocError>>(
     searcher: &F,
@@ -322,7 +337,7 @@ fn find<F: Fn(Global, &Problem, &Options) -> Result<Book, AllocError>>(
         IfOk result (IsFound a.problem.now a.goal a.gap_bits a.options.now) }
 {
     let mut bounds = bounds_of(alloc, aim, point, budget)?;
-    go_down(alloc, aim, &mut bounds)?;
+    begin_low(alloc, aim, &mut bounds)?;
     let ending = improve(searcher, alloc, aim, &mut bounds)?;
     Ok(Found {
         lower: bounds.lower,

@@ -26,3 +26,4 @@ pub mod Turns
 pub mod Waiting
 pub mod Whole
 pub mod WithRoots
+pub mod BothReadings

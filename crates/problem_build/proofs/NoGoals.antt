@@ -150,7 +150,7 @@ plain-declared [] = tt
 plain-declared (entry ∷ rest) = (refl, plain-declared rest)
 
 plain-ends : (at : Place) (c : Sexp) (i : Interval) → ArePlain (between_ends at c i)
-plain-ends at c nothing = tt
+plain-ends at c nothing = (refl, (refl, tt))
 plain-ends at c (between l h) = (refl, (refl, tt))
 
 plain-claims : (ranges : Ranges) (table : Table) (name : List ℕ) (t : Tree) → ArePlain (claims_of ranges table name t)

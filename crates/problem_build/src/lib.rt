@@ -1,7 +1,8 @@
 //! The reader's last phase, and the reader as one call.
 //!
 //! `read_session` answers the problems of all checks of a script's bytes, or the script's first fault: a script is read as
-//! it is written, and where that has a fault it is read with roots, so that constants stand for its roots and quotients.
+//! it is written, and where that has a fault it is read with roots, so that constants stand for its roots and quotients;
+//! `told` says which fault is answered where both readings have one.
 //! `build_all` answers the problems of a script whose sorts are checked. `read_problem` and `build` do so for a script that
 //! may have one check. The crate reads no file, prints no fault, and simplifies no form.
 #![tactic(auto)]
@@ -27,6 +28,7 @@ mod reader;
 mod rewritten;
 mod script;
 mod session;
+mod told;
 mod top;
 mod walk;
 mod with_roots;

@@ -10,6 +10,7 @@ ghost use Rattle.script_reading.specs.Reader.{HasProblem, commands_of};
 ghost use Rattle.script_reading.specs.Session.{HasSession};
 
 use crate::plain::{plain_goal, plain_session, plain_with_goal};
+use crate::told::told;
 use crate::with_roots::{rooted_goal, rooted_session, rooted_with_goal};
 use poly_graph::Problem;
 use problem_session::Session;
@@ -22,8 +23,8 @@ use std::alloc::Global;
 ///
 /// # Errors
 ///
-/// The first fault of the script as it is read with roots: of its size, its text, its commands, its names and sorts, its
-/// checks, of which there may be one, what replaces its roots and quotients, or its building.
+/// The first fault of the script: of its size, its text, its commands, its names and sorts, its checks, of which there may
+/// be one, what replaces its roots and quotients, or its building.
 pub fn read_problem(alloc: Global, bytes: &[u8], bound: Option<u32>) -> Result<Problem, ReadError>
     ensures { MatchResult result
         (λ p. HasProblem bound (problem_of p) bytes.now)
@@ -52,7 +53,11 @@ pub fn read_goal(
     match plain_goal(alloc, bytes, bound) {
         Ok(read) => Ok(read),
         Err(ReadError::Memory) => Err(ReadError::Memory),
-        Err(ReadError::Fault(_)) => rooted_goal(alloc, bytes, bound),
+        Err(ReadError::Fault(written)) => match rooted_goal(alloc, bytes, bound) {
+            Ok(read) => Ok(read),
+            Err(ReadError::Memory) => Err(ReadError::Memory),
+            Err(ReadError::Fault(rooted)) => Err(ReadError::Fault(told(written, rooted))),
+        },
     }
 }
 
@@ -61,8 +66,8 @@ pub fn read_goal(
 ///
 /// # Errors
 ///
-/// The first fault of the script as it is read with roots: of its size, its text, its commands, its names and sorts, or of
-/// the first check that has one.
+/// The first fault of the script: of its size, its text, its commands, its names and sorts, or of the first check that has
+/// one.
 pub fn read_session(alloc: Global, bytes: &[u8], bound: Option<u32>) -> Result<Session, ReadError>
     ensures { MatchResult result
         (λ session. HasSession bound (problems_of session) bytes.now)
@@ -71,7 +76,11 @@ pub fn read_session(alloc: Global, bytes: &[u8], bound: Option<u32>) -> Result<S
     match plain_session(alloc, bytes, bound) {
         Ok(session) => Ok(session),
         Err(ReadError::Memory) => Err(ReadError::Memory),
-        Err(ReadError::Fault(_)) => rooted_session(alloc, bytes, bound),
+        Err(ReadError::Fault(written)) => match rooted_session(alloc, bytes, bound) {
+            Ok(session) => Ok(session),
+            Err(ReadError::Memory) => Err(ReadError::Memory),
+            Err(ReadError::Fault(rooted)) => Err(ReadError::Fault(told(written, rooted))),
+        },
     }
 }
 
@@ -93,7 +102,11 @@ pub fn read_with_goal(
     match plain_with_goal(alloc, bytes, bound) {
         Ok(read) => Ok(read),
         Err(ReadError::Memory) => Err(ReadError::Memory),
-        Err(ReadError::Fault(_)) => rooted_with_goal(alloc, bytes, bound),
+        Err(ReadError::Fault(written)) => match rooted_with_goal(alloc, bytes, bound) {
+            Ok(read) => Ok(read),
+            Err(ReadError::Memory) => Err(ReadError::Memory),
+            Err(ReadError::Fault(rooted)) => Err(ReadError::Fault(told(written, rooted))),
+        },
     }
 }
 

@@ -1,21 +1,21 @@
 -- Maps from the names of the first constants, with one constant more.
-use Rattle.std.proofs.Common.{◌≡◌, ℕ, ◌+◌, ◌<◌, List, [], ◌∷◌, ◌++◌, map, take, length, Some, ap, ap₂, sym, ◌∙◌, subst, arith, bytes_eq, slice_index_or}
+use Rattle.std.proofs.Common.{◌≡◌, ℕ, ◌+◌, ◌<◌, List, [], ◌∷◌, ◌++◌, map, take, length, Bool, ◌||◌, Some, ap, ap₂, sym, ◌∙◌, subst, arith, bytes_eq, slice_index_or}
 use Rattle.std.specs.Borrow.{Bor}
 use Rattle.std.specs.HashMap.{HashMap, UpdatesBy}
 use Rattle.std.proofs.lemmas.List.{length-map, length-take-le, map-append, take_more}
 use Rattle.dyadic.specs.Point as point
-use Rattle.interval_model.specs.Interval.{Interval}
+use Rattle.interval_model.specs.Interval.{Interval, is_nothing}
 use Rattle.ival.specs.Views.{interval_of}
 use Rattle.ival.specs.declared.ends.Ival.{Ival}
 use Rattle.script_model.specs.Script as script
-use Rattle.script_roots.specs.TreeBounds.{axes_from, constant_axis, ranges_from}
+use Rattle.script_roots.specs.TreeBounds.{axes_from, constant_axis, is_empty_from, ranges_from}
 use Rattle.smt_script.specs.Views.{sort_of}
 use Rattle.root_rewriting.specs.Constants.{constant_of}
 use Rattle.root_rewriting.specs.Enclosures.{KnowsRanges}
 use Rattle.root_rewriting.specs.Shapes.{KnowsAxes, shape_of}
 use Rattle.root_rewriting.specs.declared.range.constants.Constant.{Constant}
 use Rattle.root_rewriting.specs.declared.range.shapes.Shape.{Shape}
-use Rattle.root_rewriting.proofs.Declared.{axes_more, ranges_more}
+use Rattle.root_rewriting.proofs.Declared.{axes_more, empty_more, ranges_more}
 use Rattle.root_rewriting.proofs.RangeNames.{knows_more}
 
 module _ (cs : List Constant) (k : ℕ) (c : Constant) (within : k < length cs) (is : c ≡ slice_index_or cs k c) where
@@ -47,3 +47,10 @@ module _ (cs : List Constant) (k : ℕ) (c : Constant) (within : k < length cs) 
       ap (λ (n : ℕ). (c.name.now, range n (sort_of c.sort)) ∷ ranges_from range 0 [] First) as-many ∙
       ap₂ (λ (y : List ℕ) b. (y, b) ∷ ranges_from range 0 [] First) (sym e) (sym same)))
       (knows_more interval_of old new (ranges_from range 0 [] First) x i knows updates)
+
+  -- whether a range is empty, with that of the next constant
+  pub emptiness_more : (range : ℕ → point.Sort → Interval) (old here : Bool) → old ≡ is_empty_from range 0 First → here ≡ is_nothing (range k (sort_of c.sort)) →
+      (old || here) ≡ is_empty_from range 0 (map constant_of (take (k + 1) cs))
+  emptiness_more range old here e same =
+      ap₂ (λ (a b : Bool). a || b) e (same ∙ ap (λ (n : ℕ). is_nothing (range n (sort_of c.sort))) (sym as-many)) ∙
+      sym (ap (is_empty_from range 0) one-more ∙ empty_more range 0 First (constant_of c))

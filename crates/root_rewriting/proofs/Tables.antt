@@ -5,7 +5,7 @@ use Rattle.std.proofs.Math.Seq.{drop-cons, take-length, take-suc}
 use Rattle.std.proofs.lemmas.List.{append-nil, get_or-map, length_push, map-append}
 use Rattle.std.proofs.lemmas.Option.{slice_get_within}
 use Rattle.script_roots.specs.Tree.{Tree, formless, root, is_number, holds_choice, holds_root}
-use Rattle.script_roots.specs.Ranges.{Ranges, enclosed}
+use Rattle.script_roots.specs.Ranges.{Ranges, avoids_nought, enclosed}
 use Rattle.script_roots.specs.Fresh as model
 use Rattle.script_roots.specs.Fresh.{fresh_in, fresh_of, named_from, once, quotient_name, root_name, stands_alone}
 use Rattle.script_roots.proofs.Table.{all_join}
@@ -15,7 +15,7 @@ use Rattle.root_rewriting.specs.declared.unfold.assertions.Assertion as code
 use Rattle.root_rewriting.specs.declared.unfold.trees.Facts.{Facts}
 use Rattle.root_rewriting.specs.declared.unfold.trees.Node.{Node}
 use Rattle.root_rewriting.specs.declared.unfold.trees.Node.TheVariants as nodes
-use Rattle.interval_model.specs.Interval.{everything, misses_nought}
+use Rattle.interval_model.specs.Interval.{everything}
 use Rattle.ival.specs.Views.{interval_of}
 use Rattle.script_fault.specs.declared.place.Place as code_place
 use Rattle.script_model.specs.Sexp.{Place}
@@ -149,7 +149,7 @@ enclosed_there names ts ranges k i e lt within h =
     ap interval_of h ∙ sym (get_or-map interval_of ranges k i everything lt) ∙ ap (λ is. get_or is k everything) e ∙
     get_or-map (enclosed names) ts k (formless (record { line = 0; column = 0 })) everything within
 
-pub alone_is : (names : Ranges) (t d : Tree) (over under : Facts) (m : Bool) → AreFacts over t → AreFacts under d → m ≡ misses_nought (enclosed names d) →
+pub alone_is : (names : Ranges) (t d : Tree) (over under : Facts) (m : Bool) → AreFacts over t → AreFacts under d → m ≡ avoids_nought (enclosed names d) →
     (not under.is_number && not over.holds_choice && not under.holds_choice && not under.holds_root && m) ≡ stands_alone names t d
 alone_is names t d over under m f g h =
     ap (λ b. not b && not over.holds_choice && not under.holds_choice && not under.holds_root && m) g.number ∙

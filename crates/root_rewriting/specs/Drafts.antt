@@ -8,13 +8,13 @@ use Rattle.script_roots.specs.Rewritten.{spelled, two_of}
 use Rattle.script_roots.specs.Tree.{Tree}
 use Rattle.smt_sexp.specs.Views.{place_of}
 use Rattle.root_rewriting.specs.Nodes.{tree_at}
-use Rattle.ival.specs.declared.ends.Ends.{Ends}
 use Rattle.ival.specs.declared.ends.Ival.{Ival}
 use Rattle.ival.specs.declared.ends.Ival.TheVariants.{Empty, Between}
 use Rattle.script_fault.specs.declared.place.Place as code
 use Rattle.root_rewriting.specs.declared.unfold.assertions.Assertion.{Assertion}
 use Rattle.root_rewriting.specs.Limits.{limit_at}
 use Rattle.root_rewriting.specs.Opened.{symbol_at}
+use Rattle.root_rewriting.specs.declared.claims.Limit.{Limit}
 use Rattle.root_rewriting.specs.declared.claims.Limit.TheVariants.{Whole, Low, High}
 use Rattle.root_rewriting.specs.declared.drafts.Content.{Content}
 use Rattle.root_rewriting.specs.declared.drafts.Content.TheVariants.{Tree as OfTree, AtLeast, AtMost, Square, Product}
@@ -45,12 +45,12 @@ abbrev pub drafts_of_root : code.Place → ℕ → Option ℕ → ℕ → List D
 drafts_of_root place i bound k =
     claim_draft place (AtLeast i (Whole (Some 0))) ∷ claim_draft place (AtMost i (Whole bound)) ∷ claim_draft place (Square i k) ∷ []
 
-abbrev pub drafts_of_ends : code.Place → ℕ → Ends → List Draft
-drafts_of_ends place i ends = claim_draft place (AtLeast i (Low ends.low)) ∷ claim_draft place (AtMost i (High ends.high)) ∷ []
+abbrev pub drafts_between : code.Place → ℕ → Limit → Limit → List Draft
+drafts_between place i low high = claim_draft place (AtLeast i low) ∷ claim_draft place (AtMost i high) ∷ []
 
 abbrev pub drafts_of_range : code.Place → ℕ → Ival → List Draft
-drafts_of_range place i Empty = []
-drafts_of_range place i (Between ends) = drafts_of_ends place i ends
+drafts_of_range place i Empty = drafts_between place i (Whole (Some 0)) (Whole (Some 0))
+drafts_of_range place i (Between ends) = drafts_between place i (Low ends.low) (High ends.high)
 
 abbrev pub draft_of : Assertion → Draft
 draft_of a = record { place = a.place; is_goal = a.is_goal; content = OfTree a.tree }

@@ -4,5 +4,5 @@ use Rattle.root_rewriting.specs.declared.constants.Kind.{Kind}
 use Rattle.root_rewriting.specs.declared.constants.Kind.TheVariants.{Root, Quotient}
 
 abbrev pub word_of : Kind → List ℕ
-word_of Root = codes "sqrt("
-word_of Quotient = codes "quotient("
+word_of Root = codes "|sqrt("
+word_of Quotient = codes "|quotient("

@@ -11,7 +11,7 @@ ghost use Rattle.script_roots.specs.Ranges.{Ranges};
 ghost use Rattle.script_roots.specs.Tree.{Tree};
 
 use crate::found::{Found, Source};
-use crate::range::misses_nought;
+use crate::range::avoids_nought;
 use crate::unfold::{AssertedTrees, Assertion, Facts, Node, Trees};
 use crate::walk::walk;
 use ival::Ival;
@@ -58,7 +58,7 @@ fn stands_alone(trees: &Trees<'_>, ranges: &[Ival], dividend: usize, divisor: us
 {
     let over = trees.facts(dividend);
     let under = trees.facts(divisor);
-    can_stand(over, under) && misses_nought(ranges[divisor])
+    can_stand(over, under) && avoids_nought(ranges[divisor])
 }
 
 // Whether a constant is to stand for a tree.

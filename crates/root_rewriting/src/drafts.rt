@@ -1,7 +1,7 @@
 // Assertions that are to be written.
 ghost use Rattle.std.specs.Prelude.{◌≡◌, ◌++◌, ◌<◌, [], List, ℕ, IfOk, OnOk, length, map, slice_index_or};
 ghost use Rattle.ival.specs.Views.{interval_of};
-ghost use Rattle.root_rewriting.specs.Drafts.{AreDraftsBelow, draft_command, draft_of, drafts_of_ends, drafts_of_range, drafts_of_root};
+ghost use Rattle.root_rewriting.specs.Drafts.{AreDraftsBelow, draft_command, draft_of, drafts_between, drafts_of_range, drafts_of_root};
 ghost use Rattle.root_rewriting.specs.Spelling.{fresh_name};
 ghost use Rattle.root_rewriting.specs.Enclosures.{AreEnclosures};
 ghost use Rattle.root_rewriting.specs.Table.{AreEntriesBelow, entry_of};
@@ -15,7 +15,7 @@ use crate::claims::Limit;
 use crate::constants::Fresh;
 use crate::range::{quotient_range, root_bound};
 use crate::unfold::{AssertedTrees, Assertion, Node, Trees};
-use ival::{Ends, Ival};
+use ival::Ival;
 use script_fault::Place;
 use std::alloc::{AllocError, Global};
 
@@ -65,37 +65,41 @@ fn root_drafts(place: Place, constant: usize, range: Ival, argument: usize) -> [
     ]
 }
 
-// That a constant is between two ends.
-fn end_drafts(place: Place, constant: usize, ends: Ends) -> [Draft; 2]
-    ensures { result ≡ drafts_of_ends place constant ends }
+// That a constant is between two limits.
+fn between(place: Place, constant: usize, low: Limit, high: Limit) -> [Draft; 2]
+    ensures { result ≡ drafts_between place constant low high }
 {
     [
         Draft {
             place,
             is_goal: false,
-            content: Content::AtLeast(constant, Limit::Low(ends.low)),
+            content: Content::AtLeast(constant, low),
         },
         Draft {
             place,
             is_goal: false,
-            content: Content::AtMost(constant, Limit::High(ends.high)),
+            content: Content::AtMost(constant, high),
         },
     ]
 }
 
-// Adds that a constant is in an interval.
-fn push_ends(
-    drafts: &mut Vec<Draft>,
-    place: Place,
-    constant: usize,
-    range: Ival,
-) -> Result<(), AllocError>
-    ensures { OnOk result
-        (drafts.new.items ≡ drafts.old.items ++ drafts_of_range place constant range) }
+// That a constant is in an interval, or 0 where that is empty.
+fn end_drafts(place: Place, constant: usize, range: Ival) -> [Draft; 2]
+    ensures { result ≡ drafts_of_range place constant range }
 {
     match range {
-        Ival::Empty => Ok(()),
-        Ival::Between(ends) => drafts.extend_from_slice(&end_drafts(place, constant, ends)),
+        Ival::Empty => {
+            let nought = Limit::Whole(Some(0));
+            between(place, constant, nought, nought)
+        }
+        Ival::Between(ends) => {
+            between(
+                place,
+                constant,
+                Limit::Low(ends.low),
+                Limit::High(ends.high),
+            )
+        }
     }
 }
 
@@ -125,7 +129,7 @@ fn push_claims(
         }
         Node::Quotient(place, dividend, divisor) => {
             let range = quotient_range(ranges[*dividend], ranges[*divisor]);
-            push_ends(drafts, *place, constant, range)?;
+            drafts.extend_from_slice(&end_drafts(*place, constant, range))?;
             drafts.push(Draft {
                 place: *place,
                 is_goal: false,

@@ -13,8 +13,8 @@ fn word(kind: Kind) -> &'static [u8]
     ensures { result.now ≡ word_of kind }
 {
     match kind {
-        Kind::Root => b"sqrt(",
-        Kind::Quotient => b"quotient(",
+        Kind::Root => b"|sqrt(",
+        Kind::Quotient => b"|quotient(",
     }
 }
 

@@ -14,7 +14,7 @@ use Rattle.poly_graph.specs.Term.{Term, constant, multiply, square, Atom}
 use Rattle.poly_graph.specs.Form.{Form, Forms, yes_form, no_form, atom_is, bool_is, all_form, any_form, no_forms, more_forms, form_atoms, forms_atoms, form_map, forms_map}
 use Rattle.poly_graph.specs.Problem.{HasSort, IsTerm}
 use Rattle.dyadic.specs.Lowest.{sum_fits, product_fits}
-use Rattle.script_forms.specs.Terms.{Comparison, Unfolded, term, formula, refused, ill_formed, zero_divisor, Fault, comparison_tree, is_zero, same_term, negate_tree, add_tree, multiply_tree, subtract_tree, divide_tree, inverse_of, subtraction_tree, step, steps, all_steps, constant_or, either, second_arm, arms, lift_tree, divisor_not_constant, hold_either, behind_first, quotient_tree}
+use Rattle.script_forms.specs.Terms.{Comparison, Unfolded, term, formula, refused, ill_formed, zero_divisor, Fault, comparison_tree, is_zero, same_term, negate_tree, add_tree, multiply_tree, subtract_tree, divide_tree, inverse_of, subtraction_tree, step, steps, all_steps, constant_or, either, second_arm, arms, lift_tree, divisor_not_constant, hold_either, behind_first, quotient_tree, Times, once, twice, twice_and_once, once_more, power, repeats, powers_from, powers, factors, product_tree}
 use Rattle.script_forms.specs.Unfolded.{truth_of, negation_form, term_in, forms_of, two, at_most_two, at_least_two, equal_two, and_of, or_of, not_of, xor_of, xor_from, xor_all, implies_of, choice_form, chain, not_first, different, checked, first_fault, unless_refused, takes, unfolded_operation, equality_form, distinctness_form, as_tree, at_most_terms, at_least_terms, equal_terms, lift_form, compare_two, differ_two, choice_two, choice_tree}
 use Rattle.script_forms.specs.Atoms.{constant_tree, trees, whole_form, atoms_in_place, script_atoms, firsts, already, atom_of}
 use Rattle.script_forms.proofs.Lowest.{reduced_same}
@@ -220,6 +220,33 @@ module _ (sorts : List Sort) where
   subtraction-good at (u ∷ []) h = lift-good (λ t. term (negate_tree t)) (λ t i. negate-good t i) u h.0
   subtraction-good at (u ∷ v ∷ us) h = steps-good (subtract_tree at) (subtract-good at) u (v ∷ us) h.0 h.1
 
+  power-good : (n : Times) (t : Term) → IsGoodTerm t → IsGoodTerm (power n t)
+  power-good once t h = h
+  power-good (twice n) t h = power-good n t h
+  power-good (twice_and_once n) t h = (h, power-good n t h)
+
+  choose-each : (b : Bool) (us vs : List Unfolded) → EachGood us → EachGood vs → EachGood (cond b us vs)
+  choose-each true us vs h k = h
+  choose-each false us vs h k = k
+
+  powers-from-good : (t : Term) (n : Times) (us : List Unfolded) → IsGoodTerm t → EachGood us → EachGood (powers_from t n us)
+  powers-from-good t n [] g h = (power-good n t g, tt)
+  powers-from-good t n (term u ∷ us) g h = choose-each (repeats t u) (powers_from t (once_more n) us) (term (power n t) ∷ powers_from u once us)
+      (powers-from-good t (once_more n) us g h.1) (power-good n t g, powers-from-good u once us h.0 h.1)
+  powers-from-good t n (formula f f' ∷ us) g h = (power-good n t g, h)
+  powers-from-good t n (refused x ∷ us) g h = (power-good n t g, h)
+  powers-from-good t n (either c d a b ∷ us) g h = (power-good n t g, h)
+
+  powers-good : (us : List Unfolded) → EachGood us → EachGood (powers us)
+  powers-good [] h = h
+  powers-good (term t ∷ us) h = powers-from-good t once us h.0 h.1
+  powers-good (formula f g ∷ us) h = h
+  powers-good (refused x ∷ us) h = h
+  powers-good (either c d a b ∷ us) h = h
+
+  product-good : (at : Place) (us : List Unfolded) → EachGood us → IsGoodTree (product_tree at us)
+  product-good at us h = all-steps-good (multiply_tree at) (multiply-good at) (factors us) (choose-each (hold_either us) us (powers us) h (powers-good us h))
+
   quotient-good : (at : Place) (us : List Unfolded) → EachGood us → IsGoodTree (quotient_tree at us)
   quotient-good at us h = choose-good (hold_either (behind_first us)) (refused (divisor_not_constant at)) (all_steps (divide_tree at) us) tt (all-steps-good (divide_tree at) (divide-good at) us h)
 
@@ -312,7 +339,7 @@ module _ (sorts : List Sort) where
   operation-good at choice us h = choice-tree-good us h
   operation-good at minus us h = subtraction-good at us h
   operation-good at plus us h = all-steps-good (add_tree at) (add-good at) us h
-  operation-good at times us h = all-steps-good (multiply_tree at) (multiply-good at) us h
+  operation-good at times us h = product-good at us h
   operation-good at divide us h = quotient-good at us h
   operation-good at at_most_op us h = chain-of-good (at_most_two at) (at-most-good at) us h
   operation-good at below_op us h = chain-of-good (at_most_two at) (at-most-good at) us h

@@ -2,6 +2,7 @@ pub mod Lowest
 pub mod Forms
 pub mod Means
 pub mod Quotient
+pub mod Powers
 pub mod Meaning
 pub mod Good
 pub mod Whole

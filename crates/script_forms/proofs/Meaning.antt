@@ -2,7 +2,7 @@
 use Rattle.std.proofs.Common.{◌≡◌, ℕ, List, [], ◌∷◌, ◌++◌, map, Bool, true, false, ◌&&◌, ◌||◌, cond, refl, ap, sym, ◌∙◌, length, nat_eq, arith, true≢false, suc, eqb→eq}
 use Rattle.std.specs.Bool.{passes}
 use native.Mathlib.Nat.{one-le-pow}
-use Rattle.dyadic.specs.Fraction.{Fraction, IsFraction, zero_fraction, negated, sum_of, product_of, quotient_of, difference_of}
+use Rattle.dyadic.specs.Fraction.{Fraction, IsFraction, zero_fraction, negated, sum_of, quotient_of, difference_of}
 use Rattle.dyadic.specs.Point.{Coordinate}
 use Rattle.script_model.specs.Sexp.{Place}
 use Rattle.script_model.specs.Reading.{literal_value, Operator, truth, falsehood, negation, conjunction, disjunction, implication, exclusive, equality, distinctness, choice, minus, plus, times, divide, at_most_op, below_op, at_least_op, above_op}
@@ -11,12 +11,13 @@ use Rattle.script_model.proofs.Related.{Each, Respects}
 use Rattle.poly_graph.specs.Term.{Term, constant}
 use Rattle.poly_graph.specs.Form.{Form}
 use Rattle.dyadic.specs.Lowest.{reduced}
-use Rattle.script_forms.specs.Terms.{Comparison, Unfolded, term, formula, refused, either, is_either, hold_either, behind_first, divisor_not_constant, negate_tree, all_steps, ill_formed, Fault, subtraction_tree, subtract_tree, divide_tree, add_tree, multiply_tree}
+use Rattle.script_forms.specs.Terms.{Comparison, Unfolded, term, formula, refused, either, is_either, hold_either, behind_first, divisor_not_constant, negate_tree, all_steps, ill_formed, Fault, subtraction_tree, subtract_tree, divide_tree, add_tree}
 use Rattle.script_forms.specs.Unfolded.{chain, not_of, xor_of, and_of, different, at_most_terms, at_least_terms, equal_terms, equal_two, differ_two, choice_tree, is_real_tree, picks_terms, are_terms, are_formulas, at_least_long, takes, operation_tree, unfolded_operation, as_tree, equality_form, distinctness_form, not_first, xor_all, xor_from, implies_of}
 use Rattle.script_forms.proofs.Lowest.{reduced_same}
 use Rattle.script_forms.proofs.Forms.{Same, EachSame, and_same, or_same, not_same, implies_same, xor_same, choice_same, any_pos}
+use Rattle.script_forms.proofs.Powers.{product_tree_means}
 use Rattle.script_forms.proofs.Quotient.{divide_constant}
-use Rattle.script_forms.proofs.Means.{Means, Num, Reals, no_reals, more_reals, reals, Sames, no_sames, more_sames, all_formulas, each_of, checked_means, chain_means, neighbours_sames, pairs_sames, compare_says, compare_formula, IsFormula, real_or, lift_means, at_most_compares, at_least_compares, equal_compares, sum_means, product_means, difference_means, negated_num, steps_means, all_steps_means, add_real, subtract_real, multiply_real, divide_real, both_true}
+use Rattle.script_forms.proofs.Means.{Means, Num, Reals, no_reals, more_reals, reals, Sames, no_sames, more_sames, all_formulas, each_of, checked_means, chain_means, neighbours_sames, pairs_sames, compare_says, compare_formula, IsFormula, real_or, lift_means, at_most_compares, at_least_compares, equal_compares, sum_means, difference_means, negated_num, steps_means, all_steps_means, add_real, subtract_real, divide_real, both_true}
 
 module _ (m : Fraction) (point : List Coordinate) where
   -- ---- each operator, at arguments that it takes
@@ -270,7 +271,7 @@ module _ (m : Fraction) (point : List Coordinate) where
   apply-means at choice vs us h e = choice-means vs us h e
   apply-means at minus vs us h e = let b = both_true (are_terms us) _ e in minus-means at (reals m point vs us h b.0) b.1
   apply-means at plus vs us h e = all_steps_means m point sum_of (add_tree at) (sum_means m point at) (add_real m point at) (reals m point vs us h (both_true (are_terms us) _ e).0)
-  apply-means at times vs us h e = all_steps_means m point product_of (multiply_tree at) (product_means m point at) (multiply_real m point at) (reals m point vs us h (both_true (are_terms us) _ e).0)
+  apply-means at times vs us h e = product_tree_means m point at (reals m point vs us h (both_true (are_terms us) _ e).0)
   apply-means at divide vs us h e = quotient-means at (hold_either (behind_first us)) (reals m point vs us h (both_true (are_terms us) _ e).0)
   apply-means at at_most_op vs us h e = chain_means m point (neighbours_sames m point (at_most_pair m) (at_most_terms at) (at_most_compares m point at) (λ t u. tt) (reals m point vs us h (both_true (are_terms us) _ e).0))
   apply-means at below_op vs us h e = chain_means m point (neighbours_sames m point (at_most_pair m) (at_most_terms at) (at_most_compares m point at) (λ t u. tt) (reals m point vs us h (both_true (are_terms us) _ e).0))

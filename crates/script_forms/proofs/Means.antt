@@ -117,9 +117,9 @@ module _ (m : Fraction) (point : List Coordinate) where
   unfolding sum_of
   sum-fraction p q f g = grind arith
 
-  product-fraction : (p q : Fraction) → IsFraction p → IsFraction q → IsFraction (product_of p q)
+  pub product_fraction : (p q : Fraction) → IsFraction p → IsFraction q → IsFraction (product_of p q)
   unfolding product_of
-  product-fraction p q f g = grind arith
+  product_fraction p q f g = grind arith
 
   pub negated_num : (q : Fraction) (t : Term) → Num q t → Num (negated q) (negate_tree t)
   negated_num q (constant c) h = record { one = negated-fraction q h.one; other = negated-fraction c h.other; equal = negated_same h.equal }
@@ -141,27 +141,27 @@ module _ (m : Fraction) (point : List Coordinate) where
       constant-means at (sum_fits c d) (sum_of p q) (sum_of c d) (sum-fraction p q h.one k.one) (sum-fraction c d h.other k.other) (sum_same h.equal k.equal)
   sum_means at p q t u h k = sum-num p q t u h k
 
-  product-num : (p q : Fraction) (t u : Term) → Num p t → Num q u → Num (product_of p q) (multiply t u)
-  product-num p q t u h k = record {
-    one = product-fraction p q h.one k.one;
-    other = product-fraction (term_value point t) (term_value point u) h.other k.other;
+  pub product_num : (p q : Fraction) (t u : Term) → Num p t → Num q u → Num (product_of p q) (multiply t u)
+  product_num p q t u h k = record {
+    one = product_fraction p q h.one k.one;
+    other = product_fraction (term_value point t) (term_value point u) h.other k.other;
     equal = product_same h.equal k.equal;
   }
 
-  square-num : (p q : Fraction) (t u : Term) → t ≡ u → Num p t → Num q u → Num (product_of p q) (square t)
-  square-num p q t u e h k = let k' : Num q t = subst (λ (x : Term). Num q x) (sym e) k in record {
-    one = product-fraction p q h.one k.one;
-    other = product-fraction (term_value point t) (term_value point t) h.other h.other;
+  pub square_num : (p q : Fraction) (t u : Term) → t ≡ u → Num p t → Num q u → Num (product_of p q) (square t)
+  square_num p q t u e h k = let k' : Num q t = subst (λ (x : Term). Num q x) (sym e) k in record {
+    one = product_fraction p q h.one k.one;
+    other = product_fraction (term_value point t) (term_value point t) h.other h.other;
     equal = product_same h.equal k'.equal;
   }
 
   squared : (p q : Fraction) (t u : Term) (b : Bool) → same_term t u ≡ b → Num p t → Num q u → Num (product_of p q) (cond b (square t) (multiply t u))
-  squared p q t u true e h k = square-num p q t u (same_term_is t u e) h k
-  squared p q t u false e h k = product-num p q t u h k
+  squared p q t u true e h k = square_num p q t u (same_term_is t u e) h k
+  squared p q t u false e h k = product_num p q t u h k
 
   pub product_means : (at : Place) (p q : Fraction) (t u : Term) → Num p t → Num q u → Means (real (product_of p q)) (multiply_tree at t u)
   product_means at p q (constant c) (constant d) h k =
-      constant-means at (product_fits c d) (product_of p q) (product_of c d) (product-fraction p q h.one k.one) (product-fraction c d h.other k.other) (product_same h.equal k.equal)
+      constant-means at (product_fits c d) (product_of p q) (product_of c d) (product_fraction p q h.one k.one) (product_fraction c d h.other k.other) (product_same h.equal k.equal)
   product_means at p q t u h k = squared p q t u (same_term t u) refl h k
 
   pub difference_means : (at : Place) (p q : Fraction) (t u : Term) → Num p t → Num q u → Means (real (difference_of p q)) (subtract_tree at t u)

@@ -15,7 +15,7 @@ use Rattle.script_forms.proofs.Lowest.{reduced_same}
 use Rattle.script_forms.proofs.Means.{Means, Num, product_means}
 
 module _ (m : Fraction) (point : List Coordinate) where
-  along : (x y : Fraction) (u : Unfolded) → IsFraction x → x ≈ y → Means m point (real y) u → Means m point (real x) u
+  pub along : (x y : Fraction) (u : Unfolded) → IsFraction x → x ≈ y → Means m point (real y) u → Means m point (real x) u
   along x y (term t) f e h = record { one = f; other = h.other; equal = ≈_trans h.one e h.equal }
   along x y (refused w) f e h = tt
   along x y (formula f g) i e h = elim h [ ]

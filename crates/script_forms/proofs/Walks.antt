@@ -5,18 +5,19 @@ use Rattle.script_model.specs.Sexp.{Place}
 use Rattle.script_model.specs.Reading.{Operator, truth, falsehood, negation, conjunction, disjunction, implication, exclusive, equality, distinctness, choice, minus, plus, times, divide, at_most_op, below_op, at_least_op, above_op, value, Names, Meanings, unknown}
 use Rattle.script_model.specs.Meaning.{neighbours, pairs}
 use Rattle.script_forms.proofs.Means.{both_true}
+use Rattle.script_forms.proofs.Powers.{factors_terms}
 use Rattle.dyadic.specs.Lowest.{sum_fits, product_fits}
 use Rattle.dyadic.specs.Fraction.{Fraction, sum_of, product_of}
 use Rattle.script_model.specs.Script.{Command, declare, define, claim, minimize, check, ineffective, claims, sorts_of, defined, Constant}
 use Rattle.script_model.specs.Declared.{numbered, BoundFault, bound_fault}
 use Rattle.dyadic.specs.Point.{Sort, real_sort, bool_sort}
 use Rattle.script_model.proofs.Related.{Each, Respects, claims_alike}
-use Rattle.poly_graph.specs.Term.{Term, constant, Atom}
+use Rattle.poly_graph.specs.Term.{Term, constant, multiply, square, Atom}
 use Rattle.poly_graph.specs.Form.{Form, yes_form, no_form, atom_is, bool_is, all_form, any_form, Forms, no_forms, more_forms, form_atoms, forms_atoms, form_map, forms_map}
-use Rattle.script_forms.specs.Terms.{Fault, ill_formed, Comparison, Unfolded, term, formula, refused, is_zero, is_nought, add_tree, multiply_tree, divide_tree, subtract_tree, step, steps, all_steps, subtraction_tree, either, arms, lift_tree, negate_tree, hold_either, behind_first, divisor_not_constant, constant_or, inverse_of, zero_divisor}
+use Rattle.script_forms.specs.Terms.{Fault, ill_formed, Comparison, Unfolded, term, formula, refused, is_zero, is_nought, add_tree, multiply_tree, divide_tree, subtract_tree, step, steps, all_steps, subtraction_tree, either, arms, lift_tree, negate_tree, hold_either, behind_first, divisor_not_constant, constant_or, inverse_of, zero_divisor, Times, once, twice, twice_and_once, once_more, power, repeats, factors, product_tree}
 use Rattle.script_forms.specs.Unfolded.{as_tree, truth_of, takes, first_fault, unless_refused, checked, unfolded_operation, operation_tree, forms_of, chain, at_most_two, at_least_two, equal_two, not_of, xor_of, equality_form, distinctness_form, implies_of, xor_from, is_real_tree, are_terms, at_most_terms, at_least_terms, equal_terms, lift_form, compare_two, differ_two, and_of, different, choice_two, choice_tree}
 use Rattle.script_forms.specs.Atoms.{fault_of, comparison_fault, or_next, comparisons_fault, tree_fault, trees_fault, unfolding_fault, trees, atom_of, firsts, already, constant_tree, script_atoms, number_in}
-use Rattle.script_forms.specs.Work.{Event, reached, made, asked, formed, met, Work, outcome_of, events_of, ending, subtract_events, divide_events, add_events, multiply_events, inverse_events, step_events, steps_events, all_events, subtraction_events, operation_events, unless_met, operator_events, as_work, comparison_events, form_events, forms_events, assertion_events, lift_events, compare_events, together}
+use Rattle.script_forms.specs.Work.{Event, reached, made, asked, formed, met, Work, outcome_of, events_of, ending, subtract_events, divide_events, add_events, multiply_events, inverse_events, step_events, steps_events, all_events, subtraction_events, power_events, powers_events_from, powers_events, product_events, operation_events, unless_met, operator_events, as_work, comparison_events, form_events, forms_events, assertion_events, lift_events, compare_events, together}
 use Rattle.script_forms.specs.Walk.{Stand, nothing_made, Walked, stands, stops, BuildingFault, unfolds_not, if_room, has_tree, with_tree, with_atom, has_form, with_form, larger, after_event, goes_on, after_events, constant_work, works, claim_places, after_assertions, after_root, walked, most_size, most_trees, most_atoms, most_forms, form_size, all_sizes, too_large, too_many_nodes, too_many_atoms, too_many_forms, lacks_bound, bound_beyond, fault_of_bounds, fault_or, building_fault}
 
 -- ---- what the events tell: the first fault that is met, and the atoms that are asked for
@@ -305,6 +306,53 @@ subtraction-quiet at [] = refl
 subtraction-quiet at (u ∷ []) = lift-quiet (λ t. made (negate_tree t) ∷ []) (λ t. refl) u
 subtraction-quiet at (u ∷ v ∷ us) = all-quiet (subtract_tree at) (subtract_events at) (subtract-fits at) (u ∷ v ∷ us)
 
+power-met : (n : Times) (t : Term) → first_met (power_events n t) ≡ None
+power-met once t = refl
+power-met (twice n) t = met-both (power_events n t) (made (square (power n t)) ∷ []) ∙ ap (λ x. or_next x None) (power-met n t)
+power-met (twice_and_once n) t = met-both (power_events n t) (made (square (power n t)) ∷ made (multiply t (square (power n t))) ∷ []) ∙ ap (λ x. or_next x None) (power-met n t)
+
+power-quiet : (n : Times) (t : Term) → asked_in (power_events n t) ≡ []
+power-quiet once t = refl
+power-quiet (twice n) t = asked-both (power_events n t) (made (square (power n t)) ∷ []) ∙ ap (λ x. x ++ []) (power-quiet n t)
+power-quiet (twice_and_once n) t = asked-both (power_events n t) (made (square (power n t)) ∷ made (multiply t (square (power n t))) ∷ []) ∙ ap (λ x. x ++ []) (power-quiet n t)
+
+-- no fault is met, and no atom asked for
+abbrev IsSilent : List Event → Type 0
+IsSilent es = (first_met es ≡ None) × (asked_in es ≡ [])
+
+silent-cond : (b : Bool) (es fs : List Event) → IsSilent es → IsSilent fs → IsSilent (cond b es fs)
+silent-cond true es fs h k = h
+silent-cond false es fs h k = k
+
+silent-both : (es fs : List Event) → IsSilent es → IsSilent fs → IsSilent (es ++ fs)
+silent-both es fs h k = (met-both es fs ∙ ap (λ x. or_next x (first_met fs)) h.0 ∙ k.0, asked-both es fs ∙ ap (λ x. x ++ asked_in fs) h.1 ∙ k.1)
+
+powers-from-silent : (t : Term) (n : Times) (us : List Unfolded) → IsSilent (powers_events_from t n us)
+powers-from-silent t n [] = (power-met n t, power-quiet n t)
+powers-from-silent t n (term u ∷ us) = silent-cond (repeats t u) (powers_events_from t (once_more n) us) (power_events n t ++ powers_events_from u once us)
+    (powers-from-silent t (once_more n) us) (silent-both (power_events n t) (powers_events_from u once us) (power-met n t, power-quiet n t) (powers-from-silent u once us))
+powers-from-silent t n (formula f g ∷ us) = (power-met n t, power-quiet n t)
+powers-from-silent t n (refused x ∷ us) = (power-met n t, power-quiet n t)
+powers-from-silent t n (either c d a b ∷ us) = (power-met n t, power-quiet n t)
+
+powers-silent : (us : List Unfolded) → IsSilent (cond (hold_either us) [] (powers_events us))
+powers-silent us = silent-cond (hold_either us) [] (powers_events us) (refl, refl) (go us)
+  where
+    go : (us : List Unfolded) → IsSilent (powers_events us)
+    go [] = (refl, refl)
+    go (term t ∷ us) = powers-from-silent t once us
+    go (formula f g ∷ us) = (refl, refl)
+    go (refused x ∷ us) = (refl, refl)
+    go (either c d a b ∷ us) = (refl, refl)
+
+product-met : (at : Place) (us : List Unfolded) → are_terms us ≡ true → first_met (product_events at us) ≡ fault_of (product_tree at us)
+product-met at us e = let es = cond (hold_either us) [] (powers_events us) in let fs = all_events (multiply_tree at) (multiply_events at) (factors us) in
+    met-both es fs ∙ ap (λ x. or_next x (first_met fs)) (powers-silent us).0 ∙ all-met (multiply_tree at) (multiply_events at) (multiply-fits at) (multiply-top at) (factors us) (factors_terms us e)
+
+product-quiet : (at : Place) (us : List Unfolded) → asked_in (product_events at us) ≡ []
+product-quiet at us = let es = cond (hold_either us) [] (powers_events us) in let fs = all_events (multiply_tree at) (multiply_events at) (factors us) in
+    asked-both es fs ∙ ap (λ x. x ++ asked_in fs) (powers-silent us).1 ∙ all-quiet (multiply_tree at) (multiply_events at) (multiply-fits at) (factors us)
+
 divided-met : (at : Place) (b : Bool) (us : List Unfolded) → are_terms us ≡ true →
     first_met (cond b (met (divisor_not_constant at) ∷ []) (all_events (divide_tree at) (divide_events at) us)) ≡ fault_of (cond b (refused (divisor_not_constant at)) (all_steps (divide_tree at) us))
 divided-met at true us e = refl
@@ -435,7 +483,7 @@ operation-met at distinctness us e t = pairs-silent us ∙ sym (distinctness-sou
 operation-met at choice us e t = sym (choice-sound us)
 operation-met at minus us e t = subtraction-met at us (both_true (are_terms us) _ t).0
 operation-met at plus us e t = all-met (add_tree at) (add_events at) (add-fits at) (add-top at) us (both_true (are_terms us) _ t).0
-operation-met at times us e t = all-met (multiply_tree at) (multiply_events at) (multiply-fits at) (multiply-top at) us (both_true (are_terms us) _ t).0
+operation-met at times us e t = product-met at us (both_true (are_terms us) _ t).0
 operation-met at divide us e t = divided-met at (hold_either (behind_first us)) us (both_true (are_terms us) _ t).0
 operation-met at at_most_op us e t = chain-silent us ∙ sym (chain-sound (neighbours (at_most_two at) us) (neighbours-sound (at_most_two at) (compare-sound (at_most_terms at) (λ t u. refl)) us))
 operation-met at below_op us e t = chain-silent us ∙ sym (chain-sound (neighbours (at_most_two at) us) (neighbours-sound (at_most_two at) (compare-sound (at_most_terms at) (λ t u. refl)) us))
@@ -445,7 +493,7 @@ operation-met at above_op us e t = chain-silent us ∙ sym (chain-sound (neighbo
 operation-quiet : (at : Place) (op : Operator) (us : List Unfolded) → asked_in (operation_events at op us) ≡ []
 operation-quiet at minus us = subtraction-quiet at us
 operation-quiet at plus us = all-quiet (add_tree at) (add_events at) (add-fits at) us
-operation-quiet at times us = all-quiet (multiply_tree at) (multiply_events at) (multiply-fits at) us
+operation-quiet at times us = product-quiet at us
 operation-quiet at divide us = divided-quiet at (hold_either (behind_first us)) us
 operation-quiet at equality us = chain-quiet us
 operation-quiet at distinctness us = pairs-quiet us

@@ -132,6 +132,46 @@ behind_first (u ∷ rest) = rest
 abbrev pub quotient_tree : Place → List Unfolded → Unfolded
 quotient_tree at us = cond (hold_either (behind_first us)) (refused (divisor_not_constant at)) (all_steps (divide_tree at) us)
 
+-- ---- products: a factor that stands several times in a row is a power
+
+-- so often: one time, twice as often, or once more than twice as often
+pub data Times : Type 0 where
+  once : Times
+  twice twice_and_once : Times → Times
+
+abbrev pub once_more : Times → Times
+once_more once = twice once
+once_more (twice n) = twice_and_once n
+once_more (twice_and_once n) = twice (once_more n)
+
+-- the square of a power, or the factor times that
+abbrev pub power : Times → Term → Term
+power once t = t
+power (twice n) t = square (power n t)
+power (twice_and_once n) t = multiply t (square (power n t))
+
+-- the factor stands once more; a constant is no factor of a power
+abbrev pub repeats : Term → Term → Bool
+repeats (constant q) u = false
+repeats t u = same_term t u
+
+-- of a factor that stood so often, and those behind it
+abbrev pub powers_from : Term → Times → List Unfolded → List Unfolded
+powers_from t n [] = term (power n t) ∷ []
+powers_from t n (term u ∷ rest) = cond (repeats t u) (powers_from t (once_more n) rest) (term (power n t) ∷ powers_from u once rest)
+powers_from t n us = term (power n t) ∷ us
+
+abbrev pub powers : List Unfolded → List Unfolded
+powers (term t ∷ rest) = powers_from t once rest
+powers us = us
+
+-- where one of them is a Real `ite` they stay as they are
+abbrev pub factors : List Unfolded → List Unfolded
+factors us = cond (hold_either us) us (powers us)
+
+abbrev pub product_tree : Place → List Unfolded → Unfolded
+product_tree at us = all_steps (multiply_tree at) (factors us)
+
 -- ---- the term of a comparison, made when its form is asked for
 
 abbrev pub is_zero : Term → Bool

@@ -7,7 +7,7 @@ use Rattle.script_model.specs.Meaning.{neighbours, pairs}
 use Rattle.poly_graph.specs.Term.{Term, constant, Kind, le, ge, eq}
 use Rattle.poly_graph.specs.Form.{Form, yes_form, no_form, atom_is, all_form, any_form, Forms, no_forms, more_forms}
 use Rattle.dyadic.specs.Lowest.{reduced}
-use Rattle.script_forms.specs.Terms.{Fault, ill_formed, Comparison, Unfolded, term, formula, refused, either, add_tree, multiply_tree, all_steps, subtraction_tree, quotient_tree, hold_either}
+use Rattle.script_forms.specs.Terms.{Fault, ill_formed, Comparison, Unfolded, term, formula, refused, either, add_tree, all_steps, subtraction_tree, product_tree, quotient_tree, hold_either}
 
 -- ---- parts
 
@@ -153,7 +153,7 @@ unfolded_operation at distinctness us = distinctness_form at us
 unfolded_operation at choice us = choice_tree us
 unfolded_operation at minus us = subtraction_tree at us
 unfolded_operation at plus us = all_steps (add_tree at) us
-unfolded_operation at times us = all_steps (multiply_tree at) us
+unfolded_operation at times us = product_tree at us
 unfolded_operation at divide us = quotient_tree at us
 unfolded_operation at at_most_op us = chain (neighbours (at_most_two at) us)
 unfolded_operation at below_op us = chain (neighbours (at_most_two at) us)

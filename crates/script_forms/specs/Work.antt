@@ -3,9 +3,9 @@ use Rattle.std.specs.Prelude.{List, [], ◌∷◌, ◌++◌, map, Option, Some, 
 use Rattle.script_model.specs.Sexp.{Place}
 use Rattle.script_model.specs.Reading.{Operator, equality, distinctness, minus, plus, times, divide, at_most_op, below_op, at_least_op, above_op, Meanings}
 use Rattle.script_model.specs.Meaning.{neighbours, pairs}
-use Rattle.poly_graph.specs.Term.{Term, constant, Atom}
+use Rattle.poly_graph.specs.Term.{Term, constant, multiply, square, Atom}
 use Rattle.poly_graph.specs.Form.{Form, yes_form, no_form, atom_is, bool_is, all_form, any_form, Forms, no_forms, more_forms, forms_map}
-use Rattle.script_forms.specs.Terms.{Fault, ill_formed, divisor_not_constant, Comparison, Unfolded, term, refused, either, hold_either, behind_first, is_nought, inverse_of, is_zero, negate_tree, add_tree, multiply_tree, divide_tree, subtract_tree, step}
+use Rattle.script_forms.specs.Terms.{Fault, ill_formed, divisor_not_constant, Comparison, Unfolded, term, refused, either, hold_either, behind_first, is_nought, inverse_of, is_zero, negate_tree, add_tree, multiply_tree, divide_tree, subtract_tree, step, Times, once, twice, twice_and_once, once_more, power, repeats, factors}
 use Rattle.script_forms.specs.Unfolded.{as_tree, truth_of, takes, first_fault}
 use Rattle.script_forms.specs.Atoms.{atom_of}
 
@@ -78,6 +78,25 @@ abbrev pub subtraction_events : Place → List Unfolded → List Event
 subtraction_events at (u ∷ []) = lift_events (λ t. made (negate_tree t) ∷ []) u
 subtraction_events at us = all_events (subtract_tree at) (subtract_events at) us
 
+-- a power makes the power that it is the square of, then the square, and then the factor times that
+abbrev pub power_events : Times → Term → List Event
+power_events once t = []
+power_events (twice n) t = power_events n t ++ (made (square (power n t)) ∷ [])
+power_events (twice_and_once n) t = power_events n t ++ (made (square (power n t)) ∷ made (multiply t (square (power n t))) ∷ [])
+
+-- of a factor that stood so often, and those behind it
+abbrev pub powers_events_from : Term → Times → List Unfolded → List Event
+powers_events_from t n (term u ∷ rest) = cond (repeats t u) (powers_events_from t (once_more n) rest) (power_events n t ++ powers_events_from u once rest)
+powers_events_from t n us = power_events n t
+
+abbrev pub powers_events : List Unfolded → List Event
+powers_events (term t ∷ rest) = powers_events_from t once rest
+powers_events us = []
+
+-- all powers, and then their product from left to right
+abbrev pub product_events : Place → List Unfolded → List Event
+product_events at us = cond (hold_either us) [] (powers_events us) ++ all_events (multiply_tree at) (multiply_events at) (factors us)
+
 abbrev pub quotient_events : Place → List Unfolded → List Event
 quotient_events at us = cond (hold_either (behind_first us)) (met (divisor_not_constant at) ∷ []) (all_events (divide_tree at) (divide_events at) us)
 
@@ -93,7 +112,7 @@ together (es ∷ rest) = es ++ together rest
 abbrev pub operation_events : Place → Operator → List Unfolded → List Event
 operation_events at minus us = subtraction_events at us
 operation_events at plus us = all_events (add_tree at) (add_events at) us
-operation_events at times us = all_events (multiply_tree at) (multiply_events at) us
+operation_events at times us = product_events at us
 operation_events at divide us = quotient_events at us
 operation_events at equality us = together (neighbours compare_events us)
 operation_events at distinctness us = together (pairs compare_events us)

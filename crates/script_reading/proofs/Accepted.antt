@@ -34,6 +34,11 @@ pub both_none : (x y : Option ScriptFault) → first_of x y ≡ None → (x ≡ 
 both_none None y e = (refl, e)
 both_none (Some x) y e = cc
 
+-- where both readings may have a fault
+pub rooted_none : (x : ScriptFault) (o : Option ScriptFault) → unless_plain (Some x) o ≡ None → o ≡ None
+rooted_none x None e = refl
+rooted_none x (Some y) e = cc
+
 -- ---- at the only check
 
 pub only_check : (bound : Option ℕ) (asked : List Asked) → in_checks bound asked ≡ None → (a : Asked) × (asked ≡ a ∷ []) × (building_fault bound a.script ≡ None)
@@ -124,4 +129,4 @@ module _ (bound : Option ℕ) (bytes : List ℕ) where
     where
       go : (o : Option ScriptFault) → plain_script_fault bound bytes ≡ o → unless_plain o (rooted_script_fault bound bytes) ≡ None → (script : List Command) × IsAccepted bound bytes script
       go None h k = plain-accepted h
-      go (Some x) h k = rooted-accepted x h k
+      go (Some x) h k = rooted-accepted x h (rooted_none x (rooted_script_fault bound bytes) k)

@@ -11,7 +11,7 @@ use Rattle.script_forms.specs.Walk.{building_fault}
 use Rattle.script_reading.specs.Faults.{first_of, in_building, in_each_check, in_each_rewritten, in_rewriting, plain_session_fault, rooted_session_fault, session_fault, unless_plain}
 use Rattle.script_reading.specs.Built.{IsBuiltOf}
 use Rattle.script_reading.specs.Session.{AreBuilt, AreCarried, BeginsNext, HasSession, IfSaid, asked_by, asked_in, carried_in, rewritten_at, steps_of_text}
-use Rattle.script_reading.proofs.Accepted.{both_none, built_none, replaced}
+use Rattle.script_reading.proofs.Accepted.{both_none, built_none, replaced, rooted_none}
 use Rattle.script_reading.proofs.Carried.{carried_begins}
 use Rattle.script_reading.proofs.Begun.{begun_goes_on}
 use Rattle.script_reading.proofs.Checked.{has_asked}
@@ -57,7 +57,7 @@ module _ (bound : Option ℕ) (bytes : List ℕ) where
     where
       go : (o : Option ScriptFault) → plain_session_fault bound bytes ≡ o → unless_plain o (rooted_session_fault bound bytes) ≡ None → IsClean bound bytes
       go None h k = plain-clean h
-      go (Some x) h k = rooted-clean x h k
+      go (Some x) h k = rooted-clean x h (rooted_none x (rooted_session_fault bound bytes) k)
 
 -- ---- pair by pair
 

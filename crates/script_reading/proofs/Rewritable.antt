@@ -20,7 +20,7 @@ use Rattle.sort_check.proofs.Known.{bytes_symm}
 use Rattle.script_reading.specs.Faults.{in_each_rewritten, in_rewriting, plain_session_fault, rooted_session_fault, session_fault, unless_plain}
 use Rattle.script_reading.specs.Roots.{RootedIsRewritable}
 use Rattle.script_reading.specs.Session.{steps_of_text}
-use Rattle.script_reading.proofs.Accepted.{IsReplaced, both_none, replaced}
+use Rattle.script_reading.proofs.Accepted.{IsReplaced, both_none, replaced, rooted_none}
 use Rattle.script_reading.proofs.Phases.{reads, steps_read}
 
 -- ---- names that are declared are distinct
@@ -103,6 +103,6 @@ each bound (a ∷ later) e =
 
 pub rooted_is_rewritable : RootedIsRewritable
 rooted_is_rewritable bound text x e plain =
-    let rooted : rooted_session_fault bound text ≡ None = sym (ap (λ (o : Option ScriptFault). unless_plain o (rooted_session_fault bound text)) plain) ∙ e in
+    let rooted = rooted_none x (rooted_session_fault bound text) (sym (ap (λ (o : Option ScriptFault). unless_plain o (rooted_session_fault bound text)) plain) ∙ e) in
     let r = reads course_fault_with_roots text (in_each_rewritten bound) rooted in
     subst (λ ss. AllByRecursion (λ (a : Asked). IsRewritable bound a.script) (checks_of ss)) (sym (steps_read course_fault_with_roots text r.0 r.1)) (each bound (checks_of r.0) r.2)

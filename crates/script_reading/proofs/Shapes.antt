@@ -4,9 +4,10 @@ use Rattle.dyadic.specs.Fraction.{Fraction}
 use Rattle.script_model.specs.Sexp.{Place}
 use Rattle.script_model.specs.Meaning.{neighbours, pairs}
 use Rattle.script_forms.proofs.Means.{both_true}
+use Rattle.script_forms.proofs.Powers.{factors_terms}
 use Rattle.poly_graph.specs.Term.{Term, constant}
 use Rattle.poly_graph.specs.Form.{Form}
-use Rattle.script_forms.specs.Terms.{zero_divisor, Comparison, Unfolded, term, formula, refused, constant_or, add_tree, multiply_tree, subtract_tree, divide_tree, step, steps, all_steps, subtraction_tree, comparison_tree, is_zero, is_nought, negate_tree, inverse_of, either, arms, lift_tree, hold_either, behind_first, quotient_tree, divisor_not_constant}
+use Rattle.script_forms.specs.Terms.{zero_divisor, Comparison, Unfolded, term, formula, refused, constant_or, add_tree, multiply_tree, subtract_tree, divide_tree, step, steps, all_steps, subtraction_tree, comparison_tree, is_zero, is_nought, negate_tree, inverse_of, either, arms, lift_tree, hold_either, behind_first, factors, product_tree, quotient_tree, divisor_not_constant}
 use Rattle.script_forms.specs.Unfolded.{implies_of, xor_of, xor_from, xor_all, choice_form, not_of, not_first, chain, equal_two, equality_form, distinctness_form, are_terms, are_formulas, is_real_tree, choice_two, choice_tree, lift_form, compare_two, equal_terms, differ_two, and_of, different}
 use Rattle.script_reading.specs.WellSorted.{IsSound}
 
@@ -103,8 +104,8 @@ subtraction_real at (u ∷ v ∷ us) e = all_steps_real (subtract_tree at) (subt
 pub sum_real : (at : Place) (us : List Unfolded) → are_terms us ≡ true → IsRealTree (all_steps (add_tree at) us)
 sum_real at us e = all_steps_real (add_tree at) (add-real at) us e
 
-pub product_real : (at : Place) (us : List Unfolded) → are_terms us ≡ true → IsRealTree (all_steps (multiply_tree at) us)
-product_real at us e = all_steps_real (multiply_tree at) (multiply-real at) us e
+pub product_real : (at : Place) (us : List Unfolded) → are_terms us ≡ true → IsRealTree (product_tree at us)
+product_real at us e = all_steps_real (multiply_tree at) (multiply-real at) (factors us) (factors_terms us e)
 
 pub quotient_real : (at : Place) (us : List Unfolded) → are_terms us ≡ true → IsRealTree (quotient_tree at us)
 quotient_real at us e = either-real (hold_either (behind_first us)) (refused (divisor_not_constant at)) (all_steps (divide_tree at) us) tt (all_steps_real (divide_tree at) (divide-real at) us e)

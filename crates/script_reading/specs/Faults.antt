@@ -1,12 +1,13 @@
 -- The first fault of a script's bytes, over all that is done with them: its size, its text, its commands, its names
 -- and sorts, its checks, and the building of what is in force at them. A script is read as it is written; where that has
--- a fault it is read with roots: constants stand for its roots and quotients.
-use Rattle.std.specs.Prelude.{ℕ, List, [], ◌∷◌, length, Option, Some, None, cond, nat_le}
+-- a fault it is read with roots: constants stand for its roots and quotients. Where both have one, `told` says which.
+use Rattle.std.specs.Prelude.{ℕ, List, [], ◌∷◌, length, Bool, true, false, ◌&&◌, ◌||◌, Option, Some, None, cond, nat_eq, nat_le, nat_lt}
 use Rattle.script_model.specs.Sexp.{Place}
 use Rattle.script_model.specs.Script.{Command}
 use Rattle.script_fault.specs.declared.fault.FaultKind.{FaultKind}
 use Rattle.script_fault.specs.declared.fault.FaultKind.TheVariants.{NumberTooWide, SortMismatch, DivisorNotConstant, ZeroDivisor, NoBound, BoundTooWide, LeftOut, TooMany}
 use Rattle.script_fault.specs.declared.fault.ScriptFault.{ScriptFault}
+use Rattle.script_fault.specs.declared.limit.Limit.{Limit}
 use Rattle.script_fault.specs.declared.limit.Limit.TheVariants.{Size, Nodes, Atoms, Forms}
 use Rattle.smt_sexp.specs.Lexicon.{TextRead, whole, faulty, read}
 use Rattle.smt_sexp.specs.TextAnswers.{fault_at, text_kind, too_many_bytes}
@@ -132,12 +133,51 @@ rooted_script_fault bound text = by_bytes course_fault_with_roots (in_rewritten 
 abbrev pub rooted_session_fault : Option ℕ → List ℕ → Option ScriptFault
 rooted_session_fault bound text = by_bytes course_fault_with_roots (in_each_rewritten bound) text
 
+-- ---- which fault is told
+
+abbrev pub is_of_building : Limit → Bool
+is_of_building Size = true
+is_of_building Nodes = true
+is_of_building Atoms = true
+is_of_building Forms = true
+is_of_building _ = false
+
+-- what the building meets and no constant in the place of a root or a quotient mends
+abbrev pub stays : FaultKind → Bool
+stays NumberTooWide = true
+stays ZeroDivisor = true
+stays (NoBound name) = true
+stays (BoundTooWide name) = true
+stays (TooMany limit) = is_of_building limit
+stays _ = false
+
+abbrev pub is_divisor : FaultKind → Bool
+is_divisor DivisorNotConstant = true
+is_divisor _ = false
+
+-- there is more than constants can be put into
+abbrev pub is_size : FaultKind → Bool
+is_size (TooMany Size) = true
+is_size _ = false
+
+abbrev pub stands_before : ScriptFault → ScriptFault → Bool
+stands_before x y = nat_lt x.at.line y.at.line || (nat_eq x.at.line y.at.line && nat_lt x.at.column y.at.column)
+
+-- Of the fault of a script as it is written, and that with roots: whether the former is told. So it is where roots mend nothing of it, and where it is a
+-- divisor that stands before the place from which on the script is too large for constants.
+abbrev pub is_told : ScriptFault → ScriptFault → Bool
+is_told x y = stays x.kind || (is_divisor x.kind && is_size y.kind && stands_before x y)
+
+abbrev pub told : ScriptFault → ScriptFault → ScriptFault
+told x y = cond (is_told x y) x y
+
 -- ---- the first fault
 
--- there is none where there is none as the script is written
+-- there is none where there is none in one of the two readings
 abbrev pub unless_plain : Option ScriptFault → Option ScriptFault → Option ScriptFault
 unless_plain None rooted = None
-unless_plain (Some x) rooted = rooted
+unless_plain (Some x) None = None
+unless_plain (Some x) (Some y) = Some (told x y)
 
 -- the first fault of a script with one check, where the words give this bound; a second check is one
 abbrev pub script_fault : Option ℕ → List ℕ → Option ScriptFault

@@ -5,13 +5,12 @@ use Rattle.std.specs.List.{AllByRecursion}
 use Rattle.dyadic.specs.Fraction.{Fraction}
 use Rattle.dyadic.specs.Point.{Sort, Coordinate}
 use Rattle.dyadic.proofs.Equal.{both_true}
-use Rattle.interval_model.specs.Interval.{misses_nought}
 use Rattle.script_model.specs.Reading.{Names}
 use Rattle.script_model.specs.Meaning.{Value, fraction_of}
 use Rattle.script_model.specs.Script.{Command, Constant, constants_of, sort_of_constant}
 use Rattle.script_model.specs.Declared.{Bound, DeclaredInterval, declared_interval, script_bounds, InDeclared, InBox, InDeclaredBox, bound_fault, bound_fault_from}
 use Rattle.script_roots.specs.Tree.{Tree, atomic, applied, root, quotient, formless, is_number, holds_choice, holds_root}
-use Rattle.script_roots.specs.Ranges.{Ranges, enclosed}
+use Rattle.script_roots.specs.Ranges.{Ranges, avoids_nought, enclosed}
 use Rattle.script_roots.specs.Fresh.{Table, stands_alone, left_out}
 use Rattle.script_roots.specs.TreeBounds.{declared_ranges}
 use Rattle.script_roots.specs.Rewritten.{rewritten_by, unless_empty, script_table, rewritten}
@@ -67,11 +66,11 @@ either-false true b h k = absurd (true≢false h)
 record IsQuotient (ranges : Ranges) (t d : Tree) : Type 0 where
   pub no_choice : holds_choice t ≡ false
   pub no_choice_below : holds_choice d ≡ false
-  pub misses : IsTrue (misses_nought (enclosed ranges d))
+  pub misses : IsTrue (avoids_nought (enclosed ranges d))
 
 quotient-is : (ranges : Ranges) (t d : Tree) → IsTrue (stands_alone ranges t d) → IsQuotient ranges t d
 quotient-is ranges t d h =
-    let a = both_true (not (is_number d) && not (holds_choice t) && not (holds_choice d) && not (holds_root d)) (misses_nought (enclosed ranges d)) h in
+    let a = both_true (not (is_number d) && not (holds_choice t) && not (holds_choice d) && not (holds_root d)) (avoids_nought (enclosed ranges d)) h in
     let b = both_true (not (is_number d) && not (holds_choice t) && not (holds_choice d)) (not (holds_root d)) a.0 in
     let c = both_true (not (is_number d) && not (holds_choice t)) (not (holds_choice d)) b.0 in
     let e = both_true (not (is_number d)) (not (holds_choice t)) c.0 in

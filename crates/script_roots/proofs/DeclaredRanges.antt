@@ -1,12 +1,12 @@
 -- At a point of the declared box each constant lies in its range.
-use Rattle.std.proofs.Common.{◌≡◌, ℕ, suc, List, [], ◌∷◌, ◌++◌, map, Bool, true, false, cond, ◌&&◌, Option, Some, None, IsTrue, nat_eq, bytes_eq, refl, ap₂, sym, subst, arith, true≢false}
+use Rattle.std.proofs.Common.{◌≡◌, ℕ, suc, List, [], ◌∷◌, ◌++◌, map, Bool, true, false, cond, ◌&&◌, ◌||◌, Option, Some, None, IsTrue, nat_eq, bytes_eq, refl, ap₂, sym, subst, arith, true≢false}
 use Rattle.dyadic.specs.Fraction.{Fraction, IsFraction, zero_fraction, at_most}
 use Rattle.dyadic.specs.Point.{Sort, real_sort, bool_sort, Coordinate, at_fraction, at_bool}
 use Rattle.dyadic.specs.Rounding.{at as end_at, Ext, IsExtOnGrid, end_of, end_at_most, ext_at_most, down, up}
 use Rattle.dyadic.specs.End.{lesser_ext, greater_ext}
 use Rattle.dyadic.proofs.Equal.{both_true, both_pass}
 use Rattle.dyadic.proofs.Rounds.{down_side, up_side, down_on_grid, up_on_grid}
-use Rattle.interval_model.specs.Interval.{Interval, nothing, between}
+use Rattle.interval_model.specs.Interval.{Interval, nothing, between, is_nothing}
 use Rattle.interval_model.proofs.Ends.{end_trans, other_way}
 use Rattle.script_model.specs.Sexp.{Place, Leaf, numeral, decimal, symbol}
 use Rattle.script_model.specs.Reading.{Operator, conjunction, equality, choice, minus, plus, times, divide, at_most_op, below_op, at_least_op, above_op, operators, found, Names, Named, value, function, name_meaning, leaf_meaning, application, value_named, bare_named, call_named}
@@ -18,7 +18,7 @@ use Rattle.script_model.proofs.Related.{Each}
 use Rattle.script_roots.specs.Tree.{Tree, atomic, applied, root, quotient, formless, Trees, no_trees, more_trees, is_choice, holds_choice, theory_names}
 use Rattle.script_roots.specs.Ranges.{Ranges, operator_range, enclosed}
 use Rattle.script_roots.specs.Fresh.{Asserted, asserted}
-use Rattle.script_roots.specs.TreeBounds.{EndBound, TreeBounding, known_in, axis_alone, bounded, Axes, constant_axis, axes_from, end_on, at_most_ends, at_least_ends, equal_ends, all_ends, ends_in, first_in, all_known_in, computed_in, alone_in, operation_in, or_no_end, symbol_in, leaf_in, applied_in, tree_in, trees_in, claim_ends, script_ends, ends_on, low_end, high_end, between_or_nothing, range_of, ranges_from, declared_ranges}
+use Rattle.script_roots.specs.TreeBounds.{EndBound, TreeBounding, known_in, axis_alone, bounded, Axes, constant_axis, axes_from, end_on, at_most_ends, at_least_ends, equal_ends, all_ends, ends_in, first_in, all_known_in, computed_in, alone_in, operation_in, or_no_end, symbol_in, leaf_in, applied_in, tree_in, trees_in, claim_ends, script_ends, ends_on, low_end, high_end, between_or_nothing, range_of, ranges_from, is_empty_from, in_box, declared_ranges}
 use Rattle.script_roots.specs.Laws.{tree_meaning, trees_meaning, constants_at, are_distinct}
 use Rattle.script_roots.proofs.Enclosed.{Within, EachWithin, operator_within, literal_within, truth_anywhere, InRanges, RootsHold, tree_value, tree_within}
 use Rattle.script_roots.proofs.Plain.{assertion_means, goal_means, claims_mean}
@@ -417,18 +417,36 @@ module _ (bound : Option ℕ) (script : List Command) (distinct : IsTrue (are_di
   coordinate-within axis real_sort (at_bool c) k = elim k [ ]
   coordinate-within axis bool_sort (at_fraction q) k = elim k [ ]
 
-  names-within : (axis : ℕ) (ranges : Ranges) (names : Names Value) → InRanges ranges names → (constants : List Constant) (point : List Coordinate) →
-      InBox (declared_interval bound script) axis (map sort_of_constant constants) point → InRanges (ranges_from (range_of bound Ends) axis ranges constants) (constants_at names constants point)
-  names-within axis ranges names h [] [] k = h
-  names-within axis ranges names h (c ∷ constants) (x ∷ point) k =
-      names-within (suc axis) ((c.name, range_of bound Ends axis c.sort) ∷ ranges) ((c.name, value (coordinate_value x)) ∷ names)
-      (refl, coordinate-within axis c.sort x k.0, h) constants point k.1
-  names-within axis ranges names h [] (x ∷ point) k = elim k [ ]
-  names-within axis ranges names h (c ∷ constants) [] k = elim k [ ]
+  -- a range in which a value lies is not empty
+  some-lies : (i : Interval) (v : Value) → Within i v → is_nothing i ≡ false
+  some-lies nothing v w = absurd (true≢false (sym w.inside))
+  some-lies (between l h) v w = refl
+
+  none-empty : (x y : Bool) → x ≡ false → y ≡ false → x || y ≡ false
+  none-empty false y h k = k
+  none-empty true y h k = absurd (true≢false h)
+
+  not-empty : (axis : ℕ) (constants : List Constant) (point : List Coordinate) → InBox (declared_interval bound script) axis (map sort_of_constant constants) point →
+      is_empty_from (range_of bound Ends) axis constants ≡ false
+  not-empty axis [] point k = refl
+  not-empty axis (c ∷ constants) (x ∷ point) k =
+      none-empty (is_nothing (range_of bound Ends axis c.sort)) (is_empty_from (range_of bound Ends) (suc axis) constants)
+      (some-lies (range_of bound Ends axis c.sort) (coordinate_value x) (coordinate-within axis c.sort x k.0)) (not-empty (suc axis) constants point k.1)
+  not-empty axis (c ∷ constants) [] k = elim k [ ]
+
+  names-within : (e : Bool) → e ≡ false → (axis : ℕ) (ranges : Ranges) (names : Names Value) → InRanges ranges names → (constants : List Constant) (point : List Coordinate) →
+      InBox (declared_interval bound script) axis (map sort_of_constant constants) point → InRanges (ranges_from (in_box e (range_of bound Ends)) axis ranges constants) (constants_at names constants point)
+  names-within e is axis ranges names h [] [] k = h
+  names-within e is axis ranges names h (c ∷ constants) (x ∷ point) k =
+      names-within e is (suc axis) ((c.name, in_box e (range_of bound Ends) axis c.sort) ∷ ranges) ((c.name, value (coordinate_value x)) ∷ names)
+      (refl, subst (λ (t : Bool). Within (cond t nothing (range_of bound Ends axis c.sort)) (coordinate_value x)) (sym is) (coordinate-within axis c.sort x k.0), h) constants point k.1
+  names-within e is axis ranges names h [] (x ∷ point) k = elim k [ ]
+  names-within e is axis ranges names h (c ∷ constants) [] k = elim k [ ]
 
   -- at a point of the declared box each constant lies in its range
   pub constants_in_ranges : (point : List Coordinate) → InDeclaredBox bound script point → InRanges (declared_ranges bound script) (constants_at [] (constants_of script) point)
-  constants_in_ranges point h = names-within 0 [] [] tt (constants_of script) point h
+  constants_in_ranges point h =
+      names-within (is_empty_from (range_of bound Ends) 0 (constants_of script)) (not-empty 0 (constants_of script) point h) 0 [] [] tt (constants_of script) point h
 
   -- and a tree's value lies in the tree's interval, where f gives the roots in it and no `ite` stands in it
   pub enclosed_holds : (point : List Coordinate) → InDeclaredBox bound script point → (f : Fraction → Fraction) (t : Tree) → holds_choice t ≡ false →

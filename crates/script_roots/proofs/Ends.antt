@@ -14,7 +14,7 @@ abbrev pub end_value : Sexp → Fraction
 end_value e = fraction_of (meaning (loosened zero_fraction) [] e)
 
 abbrev pub LiesBetween : Place → Fraction → Interval → Type 0
-LiesBetween at q nothing = Unit {0}
+LiesBetween at q nothing = ⊥
 LiesBetween at q (between l h) = IsTrue (at_most (end_value (low_at at l)) q) × IsTrue (at_most q (end_value (high_at at h)))
 
 -- q is from 0 to the root's bound, or in the quotient's interval

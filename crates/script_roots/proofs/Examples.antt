@@ -41,14 +41,14 @@ abbrev root_is : List Command
 root_is = bounded (claim here (two_of (codes "=") (one_of (codes "sqrt") x) one_and_half) ∷ [])
 
 abbrev root_0 : Sexp
-root_0 = name (codes "sqrt(0)")
+root_0 = name (codes "|sqrt(0)")
 
 abbrev times_1 : Sexp → Sexp
 times_1 c = two_of (codes "*") c (number (codes "1"))
 
 abbrev without_root : List Command
 without_root =
-    declare here (codes "x") real_sort ∷ declare here (codes "sqrt(0)") real_sort ∷
+    declare here (codes "x") real_sort ∷ declare here (codes "|sqrt(0)") real_sort ∷
     claim here (two_of (codes ">=") root_0 (number (codes "0"))) ∷ claim here (two_of (codes "<=") root_0 (number (codes "2"))) ∷
     claim here (two_of (codes "=") (two_of (codes "*") root_0 root_0) x) ∷
     claim here (two_of (codes ">=") x (number (codes "0"))) ∷ claim here (two_of (codes "<=") x (number (codes "4"))) ∷
@@ -65,7 +65,7 @@ called_twice = bounded
     (define here (codes "half") (record { at = here; name = codes "t"; sort = real_sort } ∷ []) real_sort (two_of (codes "/") (one_of (codes "sqrt") (name (codes "t"))) (number (codes "2"))) ∷
     claim here (two_of (codes "<") (one_of (codes "half") x) (two_of (codes "+") x (one_of (codes "half") x))) ∷ [])
 
-pub one_constant : script_table None called_twice ≡ (codes "sqrt(0)", root here (atomic here (symbol (codes "x")))) ∷ []
+pub one_constant : script_table None called_twice ≡ (codes "|sqrt(0)", root here (atomic here (symbol (codes "x")))) ∷ []
 unfolding Rattle.std.specs.Fmt.digits Rattle.dyadic.specs.Fraction.at_most
 one_constant = refl
 
@@ -78,7 +78,7 @@ abbrev inverse_is_one : Command
 inverse_is_one = claim here (two_of (codes "=") (two_of (codes "/") (number (codes "1")) x) (number (codes "1")))
 
 abbrev quotient_0 : Sexp
-quotient_0 = name (codes "quotient(0)")
+quotient_0 = name (codes "|quotient(0)")
 
 -- so many 2^20ths
 abbrev parts : List ℕ → Sexp
@@ -86,7 +86,7 @@ parts n = two_of (codes "/") (number n) (number (codes "1048576"))
 
 -- `(= (/ 1 x) 1)` with x from 1 to 2
 pub quotient_rewritten : rewritten None (from_to (codes "1") (codes "2") (inverse_is_one ∷ [])) ≡
-    declare here (codes "x") real_sort ∷ declare here (codes "quotient(0)") real_sort ∷
+    declare here (codes "x") real_sort ∷ declare here (codes "|quotient(0)") real_sort ∷
     claim here (two_of (codes ">=") quotient_0 (parts (codes "524288"))) ∷ claim here (two_of (codes "<=") quotient_0 (parts (codes "1048576"))) ∷
     claim here (two_of (codes "=") (two_of (codes "*") quotient_0 x) (number (codes "1"))) ∷
     claim here (two_of (codes ">=") x (number (codes "1"))) ∷ claim here (two_of (codes "<=") x (number (codes "2"))) ∷
@@ -98,6 +98,16 @@ quotient_rewritten = refl
 pub quotient_stays : rewritten None (from_to (codes "0") (codes "2") (inverse_is_one ∷ [])) ≡ from_to (codes "0") (codes "2") (inverse_is_one ∷ [])
 unfolding Rattle.std.specs.Fmt.digits Rattle.dyadic.specs.Fraction.at_most Rattle.dyadic.specs.Fraction.quotient_of
 quotient_stays = refl
+
+-- with x from 2 to 0, where nothing lies, the constant is 0
+pub quotient_in_empty_box : rewritten None (from_to (codes "2") (codes "0") (inverse_is_one ∷ [])) ≡
+    declare here (codes "x") real_sort ∷ declare here (codes "|quotient(0)") real_sort ∷
+    claim here (two_of (codes ">=") quotient_0 (number (codes "0"))) ∷ claim here (two_of (codes "<=") quotient_0 (number (codes "0"))) ∷
+    claim here (two_of (codes "=") (two_of (codes "*") quotient_0 x) (number (codes "1"))) ∷
+    claim here (two_of (codes ">=") x (number (codes "2"))) ∷ claim here (two_of (codes "<=") x (number (codes "0"))) ∷
+    claim here (two_of (codes "=") (times_1 quotient_0) (number (codes "1"))) ∷ []
+unfolding Rattle.std.specs.Fmt.digits Rattle.dyadic.specs.Fraction.at_most Rattle.dyadic.specs.Fraction.quotient_of
+quotient_in_empty_box = refl
 
 -- ---- ranges
 

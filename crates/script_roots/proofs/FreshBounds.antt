@@ -17,11 +17,11 @@ use Rattle.script_roots.proofs.Ends.{end_value}
 -- ---- the ends of an entry
 
 abbrev pub interval_low : Place → Interval → List Fraction
-interval_low at nothing = []
+interval_low at nothing = end_value (number_at at 0) ∷ []
 interval_low at (between l h) = end_value (low_at at l) ∷ []
 
 abbrev pub interval_high : Place → Interval → List Fraction
-interval_high at nothing = []
+interval_high at nothing = end_value (number_at at 0) ∷ []
 interval_high at (between l h) = end_value (high_at at h) ∷ []
 
 abbrev pub entry_low : Ranges → Tree → List Fraction
@@ -121,7 +121,10 @@ module _ (names : Names Bounding) where
       quotient-claims : (at : Place) (t d : Sexp) (i : Interval) →
           bounds_of (claims bounding names [] ((between_ends at (leaf at (symbol name)) i ++ is_product at (leaf at (symbol name)) d t ∷ []) ++ rest)) ≡
           (map (bound_at lower axis) (interval_low at i) ++ map (bound_at upper axis) (interval_high at i)) ++ Rest
-      quotient-claims at t d nothing = ap (λ (xs : List Bound). xs ++ Rest) (relation at d t)
+      quotient-claims at t d nothing =
+          ap₂ (λ (xs ys : List Bound). xs ++ ys) (low-claim at (number_at at 0) (end_value (number_at at 0)) refl)
+          (ap₂ (λ (xs ys : List Bound). xs ++ ys) (high-claim at (number_at at 0) (end_value (number_at at 0)) refl)
+          (ap (λ (xs : List Bound). xs ++ Rest) (relation at d t)))
       quotient-claims at t d (between l h) =
           ap₂ (λ (xs ys : List Bound). xs ++ ys) (low-claim at (low_at at l) (end_value (low_at at l)) (low-known at l))
           (ap₂ (λ (xs ys : List Bound). xs ++ ys) (high-claim at (high_at at h) (end_value (high_at at h)) (high-known at h))

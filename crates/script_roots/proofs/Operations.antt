@@ -17,7 +17,7 @@ use Rattle.interval_model.proofs.HoldsGrid.{everything_kept, inverse_product_kep
 use Rattle.interval_model.proofs.Inverses.{inverse_product_holds}
 use Rattle.interval_model.proofs.InversesEnds.{IsAbove, IsBelow, above_rises, below_falls, quotient_is_good}
 use Rattle.interval_model.proofs.InversesSquares.{root_order, size_on_grid}
-use Rattle.script_roots.specs.Ranges.{whole_above, root_above, root_bound, whole_ext, up_to_whole, root_range, quotient_range}
+use Rattle.script_roots.specs.Ranges.{avoids_nought, whole_above, root_above, root_bound, whole_ext, up_to_whole, root_range, quotient_range}
 
 -- ---- quotients
 
@@ -30,7 +30,7 @@ either-side true y h = inl refl
 either-side false y h = inr h
 
 -- what lies in an interval without 0 is not 0
-pub missed_is_not_nought : (j : Interval) (q : Fraction) → IsFraction q → Holds j q → IsTrue (misses_nought j) → IsNotNought q
+pub missed_is_not_nought : (j : Interval) (q : Fraction) → IsFraction q → Holds j q → IsTrue (avoids_nought j) → IsNotNought q
 missed_is_not_nought nothing q f h m = absurd (true≢false (sym h))
 missed_is_not_nought (between a b) q f h m =
     let k = both_true (end_at_most (end_of a) (at q)) (end_at_most (at q) (end_of b)) h in
@@ -61,20 +61,20 @@ inverse-holds i j p q f g h k n =
     (same_holds i p (product_of (quotient_of p q) q) f (product_is_good (quotient_of p q) q (quotient_is_good p q f) g) (≈_sym (quotient_back p q n)) h) k
 
 -- where 0 lies outside, the inverse of a product is the quotient
-inverse-is-quotient : (i j : Interval) (x : Fraction) → misses_nought j ≡ true → Holds (inverse_product i j) x → Holds (of_four end_quotient i j) x
+inverse-is-quotient : (i j : Interval) (x : Fraction) → avoids_nought j ≡ true → Holds (inverse_product i j) x → Holds (of_four end_quotient i j) x
 inverse-is-quotient nothing j x e h = h
 inverse-is-quotient (between l h) nothing x e k = k
 inverse-is-quotient (between l h) (between a b) x e k = subst
     (λ (t : Bool). Holds (cond t (of_four end_quotient (between l h) (between a b)) (cond (misses_nought (between l h)) (nought_inside (between l h) a b) everything)) x) e k
 
 pub quotient_holds : (i j : Interval) (p q : Fraction) → IsFraction p → IsFraction q → Holds i p → Holds j q → Holds (quotient_range i j) (quotient_of p q)
-quotient_holds i j p q f g h k = go (misses_nought j) refl
+quotient_holds i j p q f g h k = go (avoids_nought j) refl
   where
-    go : (t : Bool) → misses_nought j ≡ t → Holds (cond t (of_four end_quotient i j) everything) (quotient_of p q)
+    go : (t : Bool) → avoids_nought j ≡ t → Holds (cond t (of_four end_quotient i j) everything) (quotient_of p q)
     go true e = inverse-is-quotient i j (quotient_of p q) e (inverse-holds i j p q f g h k (missed_is_not_nought j q g k e))
     go false e = everything_holds (quotient_of p q)
 
-four-kept : (i j : Interval) → misses_nought j ≡ true → IsKept (of_four end_quotient i j)
+four-kept : (i j : Interval) → avoids_nought j ≡ true → IsKept (of_four end_quotient i j)
 four-kept nothing j e = tt
 four-kept (between l h) nothing e = tt
 four-kept (between l h) (between a b) e = subst
@@ -82,9 +82,9 @@ four-kept (between l h) (between a b) e = subst
     e (inverse_product_kept (between l h) (between a b))
 
 pub quotient_kept : (i j : Interval) → IsKept (quotient_range i j)
-quotient_kept i j = go (misses_nought j) refl
+quotient_kept i j = go (avoids_nought j) refl
   where
-    go : (t : Bool) → misses_nought j ≡ t → IsKept (cond t (of_four end_quotient i j) everything)
+    go : (t : Bool) → avoids_nought j ≡ t → IsKept (cond t (of_four end_quotient i j) everything)
     go true e = four-kept i j e
     go false e = everything_kept
 

@@ -132,7 +132,7 @@ module _ (D : Names Value) where
       )
 
   ends-hold : (at : Place) (name : List ℕ) (q : Fraction) → IsValue name q → (i : Interval) → LiesBetween at q i → AllHold (between_ends at (leaf at (symbol name)) i)
-  ends-hold at name q n nothing h = tt
+  ends-hold at name q n nothing h = elim h [ ]
   ends-hold at name q n (between l u) h =
       let c = leaf at (symbol name) in (
         is-at-least at c (low_at at l) q (end_value (low_at at l)) (n at) (low-number at l) h.0,

@@ -2,14 +2,13 @@
 use Rattle.std.proofs.Common.{◌≡◌, ℕ, suc, ◌+◌, List, [], ◌∷◌, ◌++◌, map, length, Bool, true, false, cond, not, ◌&&◌, Some, None, IsTrue, bytes_eq, refl, ap, ap₂, sym, ◌∙◌, subst, append_assoc, arith, true≢false}
 use Rattle.std.specs.List.{AllByRecursion}
 use Rattle.dyadic.specs.Point.{Sort}
-use Rattle.interval_model.specs.Interval.{misses_nought}
 use Rattle.script_model.specs.Sexp.{Place}
 use Rattle.script_model.specs.Reading.{Names, malformed}
 use Rattle.script_model.specs.Script.{Command, Constant, constants_of, sort_of_constant, claims}
 use Rattle.script_model.specs.Declared.{Bound, Bounding, bounds_in, bounding, constant_bounding, numbered, script_bounds}
 use Rattle.script_roots.specs.Tree as tree
 use Rattle.script_roots.specs.Tree.{Tree, atomic, applied, root, quotient, formless, sqrt_name, sqrt_tree, theory_names, is_number, holds_choice, holds_root}
-use Rattle.script_roots.specs.Ranges.{Ranges, enclosed}
+use Rattle.script_roots.specs.Ranges.{Ranges, avoids_nought, enclosed}
 use Rattle.script_roots.specs.Fresh.{asserted, fresh_of, once, Table, table_of}
 use Rattle.script_roots.specs.Rewritten.{claims_of_all, rewritten_by}
 use Rattle.script_roots.specs.Laws.{are_distinct, tree_meaning}
@@ -73,7 +72,7 @@ stands-for : (C : Names Bounding) → NoneKnown C → (ranges : Ranges) (axis : 
 stands-for C g ranges axis [] h f = tt
 stands-for C g ranges axis ((name, root at t) ∷ table) h f = (λ place. in_place C name axis h.0 h.1 place, stands-for C g ranges (suc axis) table h.2 f.1)
 stands-for C g ranges axis ((name, quotient at t d) ∷ table) h f = (
-  λ place. in_place C name axis h.0 h.1 place ∙ sym (quotient_is_other C g at t d (first-of-five (is_number d) (not (holds_choice t)) (not (holds_choice d)) (not (holds_root d)) (misses_nought (enclosed ranges d)) f.0)),
+  λ place. in_place C name axis h.0 h.1 place ∙ sym (quotient_is_other C g at t d (first-of-five (is_number d) (not (holds_choice t)) (not (holds_choice d)) (not (holds_root d)) (avoids_nought (enclosed ranges d)) f.0)),
   stands-for C g ranges (suc axis) table h.2 f.1,
 )
 stands-for C g ranges axis ((name, atomic at l) ∷ table) h f = elim f.0 [ ]

@@ -8,7 +8,6 @@ use Rattle.dyadic.specs.Fraction.{Fraction, zero_fraction, whole, product_of, qu
 use Rattle.dyadic.specs.Point.{Coordinate}
 use Rattle.dyadic.proofs.Equal.{◌≈◌, ≈_sym, le_holds, both_true}
 use Rattle.dyadic.proofs.Ring.{atom, natural, times, same}
-use Rattle.interval_model.specs.Interval.{misses_nought}
 use Rattle.script_model.specs.Sexp.{Place, leaf, symbol}
 use Rattle.script_model.specs.Reading.{Meanings, Names, value, function, operators, found, name_meaning, value_named}
 use Rattle.script_model.specs.Meaning.{Value, real, fraction_of, pair_of, loosened, coordinate_value}
@@ -16,7 +15,7 @@ use Rattle.script_model.specs.Script.{Command, Constant, constants_of, sort_of_c
 use Rattle.script_model.specs.Declared.{DeclaredInterval, declared_interval, InBox, InDeclaredBox}
 use Rattle.script_roots.specs.Tree as tree
 use Rattle.script_roots.specs.Tree.{Tree, atomic, applied, root, quotient, formless, trees_of, is_number, holds_choice, holds_root, sqrt_name, sqrt_tree, theory_names}
-use Rattle.script_roots.specs.Ranges.{Ranges, enclosed}
+use Rattle.script_roots.specs.Ranges.{Ranges, avoids_nought, enclosed}
 use Rattle.script_roots.specs.Fresh.{Asserted, asserted, stands_alone, fresh_in, Table, once, fresh_of, named_from}
 use Rattle.script_roots.specs.TreeBounds.{declared_ranges}
 use Rattle.script_roots.specs.Rewritten.{number_at, rewritten_by, claims_of_all, unless_empty, script_table, rewritten}
@@ -120,11 +119,11 @@ constants-as-many (entry ∷ table) [] h = elim h [ ]
 record StandsAlone (ranges : Ranges) (t d : Tree) : Type 0 where
   dividend : holds_choice t ≡ false
   divisor : holds_choice d ≡ false
-  misses : IsTrue (misses_nought (enclosed ranges d))
+  misses : IsTrue (avoids_nought (enclosed ranges d))
 
 alone-parts : (ranges : Ranges) (t d : Tree) → IsTrue (stands_alone ranges t d) → StandsAlone ranges t d
 alone-parts ranges t d h =
-    let a = both_true (not (is_number d) && not (holds_choice t) && not (holds_choice d) && not (holds_root d)) (misses_nought (enclosed ranges d)) h in
+    let a = both_true (not (is_number d) && not (holds_choice t) && not (holds_choice d) && not (holds_root d)) (avoids_nought (enclosed ranges d)) h in
     let b = both_true (not (is_number d) && not (holds_choice t) && not (holds_choice d)) (not (holds_root d)) a.0 in
     let c = both_true (not (is_number d) && not (holds_choice t)) (not (holds_choice d)) b.0 in
     let e = both_true (not (is_number d)) (not (holds_choice t)) c.0 in

@@ -2,11 +2,10 @@
 use Rattle.std.specs.Prelude.{ℕ, suc, List, [], ◌∷◌, ◌++◌, Bool, true, false, cond, not, ◌&&◌, ◌||◌, Option, Some, None, codes}
 use Rattle.std.specs.Fmt.{decimal as digits_of}
 use Rattle.std.specs.Str.{bytes_eq}
-use Rattle.interval_model.specs.Interval.{misses_nought}
 use Rattle.script_model.specs.Sexp.{Place, Leaf, numeral, decimal, symbol, reserved, string, keyword}
 use Rattle.script_model.specs.Script.{Command, declare, define, claim, minimize, check, ineffective}
 use Rattle.script_roots.specs.Tree.{Tree, atomic, applied, root, quotient, formless, Trees, no_trees, more_trees, Names, tree, definition, tree_of, theory_names, is_number, holds_choice, holds_root}
-use Rattle.script_roots.specs.Ranges.{Ranges, enclosed}
+use Rattle.script_roots.specs.Ranges.{Ranges, avoids_nought, enclosed}
 
 -- ---- the trees of a script
 
@@ -59,7 +58,7 @@ abbrev mutual
 
 -- A constant can stand for a quotient: its divisor is no number, no `ite` stands in it, no root stands in its divisor, and the divisor's values are not 0.
 abbrev pub stands_alone : Ranges → Tree → Tree → Bool
-stands_alone ranges t d = not (is_number d) && not (holds_choice t) && not (holds_choice d) && not (holds_root d) && misses_nought (enclosed ranges d)
+stands_alone ranges t d = not (is_number d) && not (holds_choice t) && not (holds_choice d) && not (holds_root d) && avoids_nought (enclosed ranges d)
 
 abbrev mutual
   -- those of a tree in reading order, inner ones first
@@ -89,11 +88,12 @@ once seen (t ∷ rest) = once (cond (has_tree t seen) seen (seen ++ t ∷ [])) r
 
 -- ---- their names
 
+-- A bar comes first, which stands in no name of a script; it is not printed.
 abbrev pub root_name : ℕ → List ℕ
-root_name k = codes "sqrt(" ++ digits_of k ++ codes ")"
+root_name k = codes "|sqrt(" ++ digits_of k ++ codes ")"
 
 abbrev pub quotient_name : ℕ → List ℕ
-quotient_name k = codes "quotient(" ++ digits_of k ++ codes ")"
+quotient_name k = codes "|quotient(" ++ digits_of k ++ codes ")"
 
 -- the trees for which constants stand, each with the constant's name
 abbrev pub Table : Type 0

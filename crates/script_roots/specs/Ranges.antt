@@ -1,8 +1,8 @@
 -- In what a tree's value lies where constants lie in ranges, and the ends of the constants that stand for roots and quotients.
-use Rattle.std.specs.Prelude.{ℕ, ◌*◌, ◌^◌, List, [], ◌∷◌, cond, Option, Some, None, pos}
+use Rattle.std.specs.Prelude.{ℕ, ◌*◌, ◌^◌, List, [], ◌∷◌, Bool, cond, ◌||◌, Option, Some, None, pos}
 use Rattle.dyadic.specs.End.{end_quotient}
 use Rattle.dyadic.specs.Rounding.{Ext, below_all, finite, above_all, down, up, ceiling, not_negative, root_up}
-use Rattle.interval_model.specs.Interval.{Interval, nothing, between, everything, interval_sum, interval_negated, interval_product, of_four, misses_nought}
+use Rattle.interval_model.specs.Interval.{Interval, nothing, between, everything, interval_sum, interval_negated, interval_product, of_four, is_nothing, misses_nought}
 use Rattle.script_model.specs.Sexp.{Leaf, numeral, decimal, symbol}
 use Rattle.script_model.specs.Reading.{Operator, plus, minus, times, divide, operators, found, literal_value}
 use Rattle.script_model.specs.Meaning.{from_left, first_and_rest}
@@ -45,8 +45,12 @@ root_range i = up_to_whole (root_bound i)
 
 -- ---- quotients
 
+-- 0 does not lie in it
+abbrev pub avoids_nought : Interval → Bool
+avoids_nought i = is_nothing i || misses_nought i
+
 abbrev pub quotient_range : Interval → Interval → Interval
-quotient_range i j = cond (misses_nought j) (of_four end_quotient i j) everything
+quotient_range i j = cond (avoids_nought j) (of_four end_quotient i j) everything
 
 -- ---- operators
 

@@ -69,9 +69,9 @@ abbrev pub high_at : Place → Ext → Sexp
 high_at at (finite d) = parts_above at d.units
 high_at at _ = number_at at too_wide
 
--- it is between the ends of the interval
+-- It is between the ends of the interval. One that is empty is so in a declared box that is empty, where 0 serves as any number.
 abbrev pub between_ends : Place → Sexp → Interval → List Command
-between_ends at c nothing = []
+between_ends at c nothing = claim at (two_of at (codes ">=") c (number_at at 0)) ∷ claim at (two_of at (codes "<=") c (number_at at 0)) ∷ []
 between_ends at c (between l h) = claim at (two_of at (codes ">=") c (low_at at l)) ∷ claim at (two_of at (codes "<=") c (high_at at h)) ∷ []
 
 abbrev pub whole_or_too_wide : Place → Option ℕ → Sexp

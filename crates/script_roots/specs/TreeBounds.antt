@@ -1,10 +1,10 @@
 -- The ranges of the declared constants, by intervals: from the bounds that the assertions' trees give.
-use Rattle.std.specs.Prelude.{ℕ, suc, List, [], ◌∷◌, ◌++◌, map, cond, nat_eq, ◌&&◌, Option, Some, None}
+use Rattle.std.specs.Prelude.{ℕ, suc, List, [], ◌∷◌, ◌++◌, map, Bool, false, cond, nat_eq, ◌&&◌, ◌||◌, Option, Some, None}
 use Rattle.dyadic.specs.Fraction.{Fraction}
 use Rattle.dyadic.specs.Point.{Sort, real_sort, bool_sort}
 use Rattle.dyadic.specs.Rounding.{Ext, below_all, above_all, ext_at_most, down, up}
 use Rattle.dyadic.specs.End.{lesser_ext, greater_ext}
-use Rattle.interval_model.specs.Interval.{Interval, nothing, between, everything}
+use Rattle.interval_model.specs.Interval.{Interval, nothing, between, everything, is_nothing}
 use Rattle.script_model.specs.Sexp.{Leaf, numeral, decimal, symbol}
 use Rattle.script_model.specs.Reading.{Operator, conjunction, equality, minus, plus, times, divide, at_most_op, below_op, at_least_op, above_op, operators, found}
 use Rattle.script_model.specs.Meaning.{neighbours, first_and_rest}
@@ -182,6 +182,18 @@ abbrev pub ranges_from : (ℕ → Sort → Interval) → ℕ → Ranges → List
 ranges_from range axis ranges [] = ranges
 ranges_from range axis ranges (c ∷ constants) = ranges_from range (suc axis) ((c.name, range axis c.sort) ∷ ranges) constants
 
+-- a constant's range is empty, from this axis on
+abbrev pub is_empty_from : (ℕ → Sort → Interval) → ℕ → List Constant → Bool
+is_empty_from range axis [] = false
+is_empty_from range axis (c ∷ constants) = is_nothing (range axis c.sort) || is_empty_from range (suc axis) constants
+
+-- the range on an axis of a box that is empty or not: each of an empty box is empty
+abbrev pub in_box : Bool → (ℕ → Sort → Interval) → ℕ → Sort → Interval
+in_box empty range axis sort = cond empty nothing (range axis sort)
+
+abbrev pub box_ranges : (ℕ → Sort → Interval) → List Constant → Ranges
+box_ranges range constants = ranges_from (in_box (is_empty_from range 0 constants) range) 0 [] constants
+
 -- The ranges of a script's constants hold its declared box. A root, and what is said of it, gives no bound.
 abbrev pub declared_ranges : Option ℕ → List Command → Ranges
-declared_ranges bound script = ranges_from (range_of bound (script_ends script)) 0 [] (constants_of script)
+declared_ranges bound script = box_ranges (range_of bound (script_ends script)) (constants_of script)

@@ -12,3 +12,4 @@ pub mod Compares
 pub mod Gathering
 pub mod Crowds
 pub mod Pairs
+pub mod Powers

@@ -14,12 +14,12 @@ use Rattle.poly_graph.specs.FormGraph.{FormNode, graph_forms, node_form}
 use Rattle.poly_graph.specs.Views.{kind_of}
 use Rattle.poly_graph.specs.declared.node.Kind.{Kind}
 use Rattle.script_forms.specs.Atoms.{atom_of}
-use Rattle.script_forms.specs.Terms.{Comparison, Unfolded, comparison_tree, constant_or, inverse_of, is_nought}
-use Rattle.script_forms.specs.Work.{Event, asked, comparison_events, ending, form_events, formed}
+use Rattle.script_forms.specs.Terms.{Comparison, Times, Unfolded, comparison_tree, constant_or, inverse_of, is_nought, power}
+use Rattle.script_forms.specs.Work.{Event, asked, comparison_events, ending, form_events, formed, power_events}
 use Rattle.script_forms.specs.Walk.{after_event, ask_atom, make_form, make_tree}
 use Rattle.term_build.specs.Built.{BuilderModel, full_atom, stand_of}
 use Rattle.term_build.specs.Does.{Does, IsAtom, IsForm, IsTree}
-use Rattle.term_build.specs.Steps.{Emits, Folds, IsTreeOf, tree_of}
+use Rattle.term_build.specs.Steps.{Emits, Folds, IsTreeOf, count, tree_of}
 use Rattle.term_build.specs.Sketch.{SketchNode, IsAtomForm, comparison_of}
 use Rattle.term_build.specs.Pairs.{ComparesTwo, DiffersEach}
 use Rattle.term_build.specs.Shapes.{AreFrames, Completing, Draining, Frame, IfDone, StaysSafe, Stepping, children, sketch_of, frame_of, node_at}
@@ -64,6 +64,10 @@ EndsFolded old new at folded r = (fits : Bool) (q : Fraction) → Folds folded f
 abbrev pub Computes : (sexp.Place → Term → Term → List Event) → (sexp.Place → Term → Term → Unfolded) → BuilderModel → BuilderModel → Place → ℕ → ℕ → Result ℕ Stop → Type 0
 Computes events tree old new at a b r =
     Emits old new (events (place_of at) (tree_of old a) (tree_of old b)) r (IsTreeOf new (tree (place_of at) (tree_of old a) (tree_of old b)))
+
+-- the power of a node's tree, which is a factor so many times
+abbrev pub MakesPower : BuilderModel → BuilderModel → ℕ → ℕ → Result ℕ Stop → Type 0
+MakesPower old new k n r = (w : Times) → count w ≡ n → Emits old new (power_events w (tree_of old k)) r (IsTree new (power w (tree_of old k)))
 
 abbrev pub inverse_unless_nought : Fraction → Option Fraction
 inverse_unless_nought q = cond (is_nought q) None (Some (inverse_of q))

@@ -1,12 +1,12 @@
 -- What the steps of terms answer.
-use Rattle.std.specs.Prelude.{◌≡◌, ℕ, List, Bool, IsTrue, IsFalse, Option, Some, None, Result, Ok, Err, slice_index_or, cond}
+use Rattle.std.specs.Prelude.{◌≡◌, ℕ, suc, ◌*◌, List, Bool, IsTrue, IsFalse, Option, Some, None, Result, Ok, Err, slice_index_or, cond}
 use Rattle.dyadic.specs.Fraction.{Fraction, zero_fraction, sum_of, product_of}
 use Rattle.dyadic.specs.Lowest.{reduced, sum_fits, product_fits}
 use Rattle.dyadic.specs.Views.{fraction_of_frac}
 use Rattle.dyadic.specs.declared.frac.Frac.{Frac}
 use Rattle.script_model.specs.Sexp.{Place}
 use Rattle.poly_graph.specs.Term.{Term, constant, variable, add, multiply, square, Node, constant_node, variable_node}
-use Rattle.script_forms.specs.Terms.{Unfolded, term, constant_or, same_term}
+use Rattle.script_forms.specs.Terms.{Unfolded, term, constant_or, same_term, Times, once, twice, twice_and_once}
 use Rattle.script_forms.specs.Work.{Event}
 use Rattle.script_forms.specs.Walk.{after_events}
 use Rattle.term_build.specs.Built.{BuilderModel, stand_of}
@@ -24,6 +24,12 @@ Emits old new es r P = Does old new (λ claim s. after_events claim s es) r P
 -- node k is the tree that this unfolded to
 abbrev pub IsTreeOf : BuilderModel → Unfolded → ℕ → Type 0
 IsTreeOf m u k = (t : Term) × (u ≡ term t) × IsTree m t k
+
+-- how often a factor stands
+abbrev pub count : Times → ℕ
+count once = 1
+count (twice n) = 2 * count n
+count (twice_and_once n) = suc (2 * count n)
 
 abbrev pub as_constant : Term → Option Fraction
 as_constant (constant q) = Some q

@@ -3,9 +3,9 @@ ghost use Rattle.std.specs.Prelude.{◌≡◌, ◌<◌, ◌^◌, length, None, c
 ghost use Rattle.dyadic.specs.Views.{fraction_of_frac};
 ghost use Rattle.poly_graph.specs.Term.{multiply_node, square_node};
 ghost use Rattle.poly_graph.specs.Views.{node_of};
-ghost use Rattle.script_forms.specs.Terms.{add_tree, divide_tree, multiply_tree, negate_tree, subtract_tree, term};
+ghost use Rattle.script_forms.specs.Terms.{add_tree, divide_tree, multiply_tree, negate_tree, repeats, subtract_tree, term};
 ghost use Rattle.script_forms.specs.Work.{add_events, divide_events, multiply_events, subtract_events};
-ghost use Rattle.term_build.specs.Calls.{Computes, Ends, EndsFolded, fraction_in, inverse_unless_nought};
+ghost use Rattle.term_build.specs.Calls.{Computes, Ends, EndsFolded, MakesPower, fraction_in, inverse_unless_nought};
 ghost use Rattle.term_build.specs.Steps.{constants, tree_of};
 
 use crate::builder::Builder;
@@ -92,6 +92,37 @@ impl Builder {
     {
         let factors = product_node(a, b, self.is_same(a, b));
         self.make(factors)
+    }
+
+    /// Whether a factor stands once more: it is one and the same tree as the one before it, and no constant.
+    pub fn repeats(&self, a: u32, b: u32) -> bool
+        requires first { a < length self.now.nodes }
+        requires second { b < length self.now.nodes }
+        ensures { result ≡ repeats (tree_of self.now a) (tree_of self.now b) }
+    {
+        match self.constant_at(a) {
+            Some(_) => false,
+            None => self.is_same(a, b),
+        }
+    }
+
+    /// The power of a factor that stands so many times: the square of a power, or the factor times that. It calls itself
+    /// as deep as the number has binary digits.
+    pub fn power(&mut self, factor: u32, times: usize) -> Result<u32, Stop>
+        requires node { factor < length self.old.nodes }
+        requires some { 0 < times }
+        ensures does { MakesPower self.old self.new factor times result }
+        ensures sorts { self.new.sorts ≡ self.old.sorts }
+    {
+        if times == 1 {
+            return Ok(factor);
+        }
+        let root = self.power(factor, times / 2)?;
+        let square = self.make(Node::Sq(root))?;
+        if times % 2 == 0 {
+            return Ok(square);
+        }
+        self.make(Node::Mul(factor, square))
     }
 
     /// The quotient of two trees, of an expression at this place: the product of the first and the inverse of the

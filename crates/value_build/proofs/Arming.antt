@@ -6,9 +6,9 @@ use Rattle.script_model.specs.Declared.{Bound, Bounding, known, constant_of, bou
 use Rattle.smt_sexp.specs.Views.{place_of}
 use Rattle.script_fault.specs.declared.place.Place as code_place
 use Rattle.poly_graph.specs.Term.{Term, Kind, le, ge, eq}
-use Rattle.script_forms.specs.Terms.{Unfolded, refused, divisor_not_constant, hold_either, divide_tree, step, steps, all_steps}
+use Rattle.script_forms.specs.Terms.{Unfolded, refused, divisor_not_constant, hold_either, multiply_tree, divide_tree, step, steps, all_steps, powers}
 use Rattle.script_forms.specs.Unfolded.{unfolded_operation}
-use Rattle.script_forms.specs.Work.{Event, met, divide_events, step_events, steps_events, all_events, compare_events, together, operation_events}
+use Rattle.script_forms.specs.Work.{Event, met, multiply_events, divide_events, powers_events, step_events, steps_events, all_events, compare_events, together, operation_events}
 use Rattle.term_build.specs.Built.{BuilderModel, stand_of}
 use Rattle.term_build.specs.Settled.{Extends}
 use Rattle.term_build.specs.Sketch.{SketchNode, IsSketch}
@@ -186,16 +186,18 @@ quotient_stops m m' ds ds' at Add v vs d e = cc
 quotient_stops m m' ds ds' at Subtract v vs d e = cc
 quotient_stops m m' ds ds' at Multiply v vs d e = cc
 
-pub folds_calculate : (m m' : BuilderModel) (ds ds' : List SketchNode) (at : Place) (s : Step) (v : Value) (vs : List Value) (r : Result Arm Stop) → are_arms (v ∷ []) ≡ true → (is_difference s ≡ true → vs ≡ [] → ⊥) → (is_quotient s ≡ true → hold_choice vs ≡ false) →
+pub folds_calculate : (m m' : BuilderModel) (ds ds' : List SketchNode) (at : Place) (s : Step) (v : Value) (vs : List Value) (r : Result Arm Stop) → are_arms (v ∷ []) ≡ true → hold_choice (v ∷ vs) ≡ true → (is_difference s ≡ true → vs ≡ [] → ⊥) → (is_quotient s ≡ true → hold_choice vs ≡ false) →
     Folds m ds m' ds' at s (arm_of v) vs r → Calculates m ds m' ds' at s v vs r
-folds_calculate m m' ds ds' at s v vs r e d q w = λ lists u us b bs h l. go s lists u us b bs d q h l (w lists u us bs (value_arm m ds lists u b v e h) l)
+folds_calculate m m' ds ds' at s v vs r e held d q w = λ lists u us b bs h l. go s lists u us b bs d q h l (w lists u us bs (value_arm m ds lists u b v e h) l)
   where
     go : (s : Step) (lists : List (List Bound)) (u : Unfolded) (us : List Unfolded) (b : Bounding) (bs : List Bounding) → (is_difference s ≡ true → vs ≡ [] → ⊥) → (is_quotient s ≡ true → hold_choice vs ≡ false) →
         IsValue (making m ds lists) u b v → AreValues (making m ds lists) us bs vs →
         Lifts m ds m' ds' (steps_events (tree_of_step s at) (events_of_step s at) u us) (steps (tree_of_step s at) u us) r →
         Lifts m ds m' ds' (operation_events at (operator_of_step s) (u ∷ us)) (unfolded_operation at (operator_of_step s) (u ∷ us)) r
     go Add lists u us b bs d q h l k = k
-    go Multiply lists u us b bs d q h l k = k
+    go Multiply lists u us b bs d q h l k = let f = multiply_tree at in
+        subst (λ c. Lifts m ds m' ds' (cond c [] (powers_events (u ∷ us)) ++ all_events f (multiply_events at) (cond c (u ∷ us) (powers (u ∷ us)))) (all_steps f (cond c (u ∷ us) (powers (u ∷ us)))) r)
+        (sym (hold_is (making m ds lists) (u ∷ us) (b ∷ bs) (v ∷ vs) (h, l) ∙ held)) k
     go Subtract lists u (x ∷ us) b bs d q h l k = k
     go Subtract lists u [] b bs d q h l k = absurd (d refl (nothing vs bs l))
       where

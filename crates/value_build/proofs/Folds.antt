@@ -20,7 +20,7 @@ use Rattle.term_build.proofs.Emits.{events_both, stops_so, stopped_on, tree_is, 
 use Rattle.term_build.proofs.Lists.{index_get}
 use Rattle.term_build.proofs.Settled.{extends_self, extends_on, extends_to}
 use Rattle.value_build.proofs.Plain.{plain_trees}
-use Rattle.value_build.specs.Arithmetic.{AreNodes, IsFolding, is_difference, operator_of_step, tree_of_step, events_of_step}
+use Rattle.value_build.specs.Arithmetic.{AreNodes, IsFolding, is_difference, is_product, operator_of_step, tree_of_step, events_of_step}
 use Rattle.value_build.specs.declared.arithmetic.Step.{Step}
 use Rattle.value_build.specs.declared.arithmetic.Step.TheVariants.{Add, Subtract, Multiply, Divide}
 
@@ -96,16 +96,16 @@ fold_done step at m now first rest k h = ((λ claim. h.walk claim), (h.value, h.
 
 -- ---- an operator
 
-pub calculate_folds : (step : Step) (at : Place) (m m1 : BuilderModel) (k : ℕ) (ks : List ℕ) (r : Result ℕ Stop) → (is_difference step ≡ true → ks ≡ [] → ⊥) →
+pub calculate_folds : (step : Step) (at : Place) (m m1 : BuilderModel) (k : ℕ) (ks : List ℕ) (r : Result ℕ Stop) → is_product step ≡ false → (is_difference step ≡ true → ks ≡ [] → ⊥) →
     Emits m m1 (steps_events (tree_of_step step at) (events_of_step step at) (tree_at (stand_of m).trees k) (trees_at (stand_of m).trees ks)) r (IsTreeOf m1 (steps (tree_of_step step at) (tree_at (stand_of m).trees k) (trees_at (stand_of m).trees ks))) →
     Emits m m1 (operation_events at (operator_of_step step) (trees_at (stand_of m).trees (k ∷ ks))) r (IsTreeOf m1 (unfolded_operation at (operator_of_step step) (trees_at (stand_of m).trees (k ∷ ks))))
-calculate_folds Add at m m1 k ks r h e = e
-calculate_folds Multiply at m m1 k ks r h e = e
-calculate_folds Divide at m m1 k ks r h e = let ts = (stand_of m).trees in let f = divide_tree at in let g = divide_events at in
+calculate_folds Add at m m1 k ks r p h e = e
+calculate_folds Multiply at m m1 k ks r p h e = cc
+calculate_folds Divide at m m1 k ks r p h e = let ts = (stand_of m).trees in let f = divide_tree at in let g = divide_events at in
     subst (λ b. Emits m m1 (cond b (met (divisor_not_constant at) ∷ []) (steps_events f g (tree_at ts k) (trees_at ts ks))) r (IsTreeOf m1 (cond b (refused (divisor_not_constant at)) (steps f (tree_at ts k) (trees_at ts ks)))))
     (sym (plain_trees ts ks)) e
-calculate_folds Subtract at m m1 k [] r h e = absurd (h refl refl)
-calculate_folds Subtract at m m1 k (j ∷ ks) r h e = e
+calculate_folds Subtract at m m1 k [] r p h e = absurd (h refl refl)
+calculate_folds Subtract at m m1 k (j ∷ ks) r p h e = e
 
 pub calculate_negates : (step : Step) (at : Place) (m m1 : BuilderModel) (k : ℕ) (ks : List ℕ) (r : Result ℕ Stop) → is_difference step ≡ true → ks ≡ [] →
     Emits m m1 (ending (term (negate_tree (tree_of m k)))) r (IsTreeOf m1 (term (negate_tree (tree_of m k)))) →

@@ -13,6 +13,7 @@ pub mod Meeting
 pub mod Spreading
 pub mod Gathering
 pub mod Plain
+pub mod Products
 pub mod Arming
 pub mod Joining
 pub mod Taken

@@ -11,7 +11,7 @@ use Rattle.script_model.specs.Meaning.{Value, real, bool, either as either_value
 use Rattle.script_model.specs.Declared.{Bounding, known, constant_of, other, bounds, with_first, all_known, computed, alone, bounding_operation}
 use Rattle.script_model.proofs.Related.{Each}
 use Rattle.poly_graph.specs.Term.{Term, constant, variable, negate, add, multiply, square}
-use Rattle.script_forms.specs.Terms.{Fault, Unfolded, term, refused, divisor_not_constant, constant_or, number_too_wide, ill_formed, add_tree, multiply_tree, subtract_tree, divide_tree, negate_tree, is_nought, inverse_of, zero_divisor, divisor_not_constant, same_term, steps}
+use Rattle.script_forms.specs.Terms.{Fault, Unfolded, term, refused, divisor_not_constant, constant_or, number_too_wide, ill_formed, add_tree, multiply_tree, subtract_tree, divide_tree, negate_tree, is_nought, inverse_of, zero_divisor, divisor_not_constant, same_term, steps, all_steps, Times, once, twice, twice_and_once, once_more, power, repeats, powers_from, powers, product_tree}
 use Rattle.script_forms.specs.Unfolded.{first_fault, takes, unless_refused, operation_tree, unfolded_operation}
 use Rattle.script_forms.proofs.Means.{Means}
 use Rattle.script_forms.proofs.Meaning.{respects}
@@ -378,6 +378,111 @@ several s at ts k j ks bs r h t g e None a = not_constant (tree_of_step s at) (i
 several s at ts k j ks bs r h t g e (Some qs) a = let d = all_constant (tree_of_step s at) (is_step s at) ts k (j ∷ ks) bs qs r h a (sym g ∙ e) in
     folded s at ts (k ∷ j ∷ ks) bs qs r d.0 h a t e d.1
 
+-- ---- products
+
+power-apart : (n : Times) (t : Term) → as_constant t ≡ None → as_constant (power n t) ≡ None
+power-apart once t e = e
+power-apart (twice n) t e = refl
+power-apart (twice_and_once n) t e = refl
+
+more-weighs : (n : Times) (t : Term) → Weighs (power (once_more n) t) other
+more-weighs once t = refl
+more-weighs (twice n) t = refl
+more-weighs (twice_and_once n) t = refl
+
+no-repeats : (t u : Term) (c : Fraction) → t ≡ constant c → repeats t u ≡ false
+no-repeats t u c e = ap (λ x. repeats x u) e
+
+-- whether the next tree is one more of the same factor
+by-repeats : (P : List Unfolded → Type 0) (b : Bool) (us vs : List Unfolded) → P us → P vs → P (cond b us vs)
+by-repeats P true us vs h k = h
+by-repeats P false us vs h k = k
+
+-- from a tree that is no constant on
+apart-powers : (f : Term → Term → Unfolded) → IsStep f → (ts : List Term) (t u : Term) (n : Times) (ks : List ℕ) (r : Term) → as_constant t ≡ None → steps f (term t) (powers_from u n (trees_at ts ks)) ≡ term r → Weighs r other
+apart-powers f i ts t u n [] r h e = i.joins t (power n u) r (apart-left t (power n u) h) e
+apart-powers f i ts t u n (k ∷ ks) r h e =
+    by-repeats (λ (us : List Unfolded). steps f (term t) us ≡ term r → Weighs r other) (repeats u (term_at ts k)) (powers_from u (once_more n) (trees_at ts ks)) (term (power n u) ∷ powers_from (term_at ts k) once (trees_at ts ks))
+    (λ d. apart-powers f i ts t u (once_more n) ks r h d)
+    (λ d. let m = next-tree f i t (power n u) (powers_from (term_at ts k) once (trees_at ts ks)) r d in
+    apart-powers f i ts m.0 (term_at ts k) once ks r (other-apart m.0 (i.joins t (power n u) m.0 (apart-left t (power n u) h) m.1)) m.2)
+    e
+
+-- from a power on
+power-powers : (f : Term → Term → Unfolded) → IsStep f → (ts : List Term) (u : Term) (n : Times) (ks : List ℕ) (r : Term) → as_constant u ≡ None → Weighs (power n u) other → all_steps f (powers_from u n (trees_at ts ks)) ≡ term r → Weighs r other
+power-powers f i ts u n [] r h w e = subst (λ (x : Term). Weighs x other) (term-is (power n u) r e) w
+power-powers f i ts u n (k ∷ ks) r h w e =
+    by-repeats (λ (us : List Unfolded). all_steps f us ≡ term r → Weighs r other) (repeats u (term_at ts k)) (powers_from u (once_more n) (trees_at ts ks)) (term (power n u) ∷ powers_from (term_at ts k) once (trees_at ts ks))
+    (λ d. power-powers f i ts u (once_more n) ks r h (more-weighs n u) d)
+    (λ d. apart-powers f i ts (power n u) (term_at ts k) once ks r (power-apart n u h) d)
+    e
+
+-- from a constant on, before a tree that is none
+constant-powers : (f : Term → Term → Unfolded) → IsStep f → (ts : List Term) (p : Fraction) (u : Term) (n : Times) (ks : List ℕ) (r : Term) → as_constant u ≡ None → steps f (term (constant p)) (powers_from u n (trees_at ts ks)) ≡ term r → Weighs r other
+constant-powers f i ts p u n [] r h e = i.joins (constant p) (power n u) r (apart-right p (power n u) (power-apart n u h)) e
+constant-powers f i ts p u n (k ∷ ks) r h e =
+    by-repeats (λ (us : List Unfolded). steps f (term (constant p)) us ≡ term r → Weighs r other) (repeats u (term_at ts k)) (powers_from u (once_more n) (trees_at ts ks)) (term (power n u) ∷ powers_from (term_at ts k) once (trees_at ts ks))
+    (λ d. constant-powers f i ts p u (once_more n) ks r h d)
+    (λ d. let m = next-tree f i (constant p) (power n u) (powers_from (term_at ts k) once (trees_at ts ks)) r d in
+    apart-powers f i ts m.0 (term_at ts k) once ks r (other-apart m.0 (i.joins (constant p) (power n u) m.0 (apart-right p (power n u) (power-apart n u h)) m.1)) m.2)
+    e
+
+-- a constant is a power for itself
+constant-first : (ts : List Term) (t : Term) (c : Fraction) (k : ℕ) (ks : List ℕ) → t ≡ constant c → powers_from t once (trees_at ts (k ∷ ks)) ≡ term t ∷ powers_from (term_at ts k) once (trees_at ts ks)
+constant-first ts t c k ks e = ap (λ b. cond b (powers_from t (once_more once) (trees_at ts ks)) (term t ∷ powers_from (term_at ts k) once (trees_at ts ks))) (no-repeats t (term_at ts k) c e)
+
+unknown-powers : (f : Term → Term → Unfolded) → IsStep f → (ts : List Term) (p : Fraction) (k : ℕ) (ks : List ℕ) (bs : List Bounding) (r : Term) → WeighsEach ts (k ∷ ks) bs → all_known bs ≡ None →
+    steps f (term (constant p)) (powers_from (term_at ts k) once (trees_at ts ks)) ≡ term r → Weighs r other
+unknown-powers f i ts p k [] (b ∷ []) r h a e = elim (known_or (term_at ts k) b h.0) [
+  | inl w ↦ let n = first-none w.number (all_known []) (ap (λ x. all_known (x ∷ [])) (sym w.bounding) ∙ a) in cc
+  | inr w ↦ constant-powers f i ts p (term_at ts k) once [] r w.0 e
+]
+unknown-powers f i ts p k (j ∷ ks) (b ∷ bs) r h a e = elim (known_or (term_at ts k) b h.0) [
+  | inl w ↦ let m = next-tree f i (constant p) (term_at ts k) (powers_from (term_at ts j) once (trees_at ts ks)) r
+      (ap (λ us. steps f (term (constant p)) us) (sym (constant-first ts (term_at ts k) w.written j ks w.tree)) ∙ e) in
+      let q = i.folds p w.written m.0 (ap (λ x. f (constant p) x) (sym w.tree) ∙ m.1) in
+      unknown-powers f i ts q.0 j ks bs r h.1 (first-none w.number (all_known bs) (ap (λ x. all_known (x ∷ bs)) (sym w.bounding) ∙ a))
+      (ap (λ x. steps f (term x) (powers_from (term_at ts j) once (trees_at ts ks))) (sym q.1) ∙ m.2)
+  | inr w ↦ constant-powers f i ts p (term_at ts k) once (j ∷ ks) r w.0 e
+]
+unknown-powers f i ts p k ks [] r h a e = elim h [ ]
+unknown-powers f i ts p k [] (b ∷ c ∷ bs) r h a e = elim h.1 [ ]
+
+-- of two trees and more, not all known
+other-product : (f : Term → Term → Unfolded) → IsStep f → (ts : List Term) (k j : ℕ) (ks : List ℕ) (bs : List Bounding) (r : Term) → WeighsEach ts (k ∷ j ∷ ks) bs → all_known bs ≡ None →
+    all_steps f (powers (trees_at ts (k ∷ j ∷ ks))) ≡ term r → Weighs r other
+other-product f i ts k j ks [] r h a e = elim h [ ]
+other-product f i ts k j ks (b ∷ bs) r h a e = elim (known_or (term_at ts k) b h.0) [
+  | inl w ↦ let g = ap (λ us. all_steps f us) (sym (constant-first ts (term_at ts k) w.written j ks w.tree)) ∙ e in
+      unknown-powers f i ts w.written j ks bs r h.1 (first-none w.number (all_known bs) (ap (λ x. all_known (x ∷ bs)) (sym w.bounding) ∙ a))
+      (ap (λ x. steps f (term x) (powers_from (term_at ts j) once (trees_at ts ks))) (sym w.tree) ∙ g)
+  | inr w ↦ by-repeats (λ (us : List Unfolded). all_steps f us ≡ term r → Weighs r other) (repeats (term_at ts k) (term_at ts j)) (powers_from (term_at ts k) (twice once) (trees_at ts ks)) (term (term_at ts k) ∷ powers_from (term_at ts j) once (trees_at ts ks))
+      (λ d. power-powers f i ts (term_at ts k) (twice once) ks r w.0 refl d)
+      (λ d. apart-powers f i ts (term_at ts k) (term_at ts j) once ks r w.0 d)
+      e
+]
+
+-- constants are no factors of powers
+known-powers : (ts : List Term) (k : ℕ) (ks : List ℕ) (bs : List Bounding) (qs : List Value) → WeighsEach ts (k ∷ ks) bs → all_known bs ≡ Some qs → powers_from (term_at ts k) once (trees_at ts ks) ≡ tree_at ts k ∷ trees_at ts ks
+known-powers ts k [] bs qs h a = refl
+known-powers ts k (j ∷ ks) [] qs h a = elim h [ ]
+known-powers ts k (j ∷ ks) (b ∷ bs) qs h a = elim (known_or (term_at ts k) b h.0) [
+  | inl w ↦ let s = first-some w.number (all_known bs) qs (ap (λ x. all_known (x ∷ bs)) (sym w.bounding) ∙ a) in
+      constant-first ts (term_at ts k) w.written j ks w.tree ∙ ap (λ us. tree_at ts k ∷ us) (known-powers ts j ks bs s.0 h.1 s.1)
+  | inr w ↦ let o = w.1 bs in cc
+]
+
+-- trees alone
+pub plain_product : (at : Place) (ts : List Term) (ks : List ℕ) → product_tree at (trees_at ts ks) ≡ all_steps (multiply_tree at) (powers (trees_at ts ks))
+plain_product at ts ks = ap (λ b. all_steps (multiply_tree at) (cond b (trees_at ts ks) (powers (trees_at ts ks)))) (plain_trees ts ks)
+
+several-factors : (at : Place) (ts : List Term) (k j : ℕ) (ks : List ℕ) (bs : List Bounding) (r : Term) → WeighsEach ts (k ∷ j ∷ ks) bs → takes times (trees_at ts (k ∷ j ∷ ks)) ≡ true →
+    product_tree at (trees_at ts (k ∷ j ∷ ks)) ≡ term r → (x : Option (List Value)) → all_known bs ≡ x → Weighs r (computed times x)
+several-factors at ts k j ks bs r h t e None a = other-product (multiply_tree at) (multiply_step at) ts k j ks bs r h a (sym (plain_product at ts (k ∷ j ∷ ks)) ∙ e)
+several-factors at ts k j ks bs r h t e (Some qs) a =
+    let g = plain_product at ts (k ∷ j ∷ ks) ∙ ap (λ us. all_steps (multiply_tree at) us) (known-powers ts k (j ∷ ks) bs qs h a) in
+    several Multiply at ts k j ks bs r h t g e (Some qs) a
+
 -- the opposite of one tree
 opposite-weighs : (t : Term) → as_constant t ≡ None → Weighs (negate_tree t) other
 opposite-weighs (constant c) e = cc
@@ -406,7 +511,7 @@ arithmetic_weighs Subtract at ts (k ∷ []) (b ∷ []) r h t e = opposite at ts 
 arithmetic_weighs Divide at ts (k ∷ []) bs r h t e = cc
 arithmetic_weighs Add at ts (k ∷ j ∷ ks) (b ∷ b' ∷ bs) r h t e = several Add at ts k j ks (b ∷ b' ∷ bs) r h t refl e (all_known (b ∷ b' ∷ bs)) refl
 arithmetic_weighs Subtract at ts (k ∷ j ∷ ks) (b ∷ b' ∷ bs) r h t e = several Subtract at ts k j ks (b ∷ b' ∷ bs) r h t refl e (all_known (b ∷ b' ∷ bs)) refl
-arithmetic_weighs Multiply at ts (k ∷ j ∷ ks) (b ∷ b' ∷ bs) r h t e = several Multiply at ts k j ks (b ∷ b' ∷ bs) r h t refl e (all_known (b ∷ b' ∷ bs)) refl
+arithmetic_weighs Multiply at ts (k ∷ j ∷ ks) (b ∷ b' ∷ bs) r h t e = several-factors at ts k j ks (b ∷ b' ∷ bs) r h t e (all_known (b ∷ b' ∷ bs)) refl
 arithmetic_weighs Divide at ts (k ∷ j ∷ ks) (b ∷ b' ∷ bs) r h t e = several Divide at ts k j ks (b ∷ b' ∷ bs) r h t (ap (λ x. cond x (refused (divisor_not_constant at)) (steps (divide_tree at) (tree_at ts k) (trees_at ts (j ∷ ks)))) (plain_trees ts (j ∷ ks))) e (all_known (b ∷ b' ∷ bs)) refl
 arithmetic_weighs s at ts (k ∷ []) [] r h t e = elim h [ ]
 arithmetic_weighs s at ts (k ∷ []) (b ∷ b' ∷ bs) r h t e = elim h.1 [ ]

@@ -13,9 +13,9 @@ use Rattle.script_model.specs.Reading.{literal_value}
 use Rattle.poly_graph.specs.Term.{Term, constant}
 use Rattle.poly_graph.specs.Views.{kind_of}
 use Rattle.poly_graph.specs.declared.node.Kind.{Kind}
-use Rattle.script_forms.specs.Terms.{Unfolded, steps, term}
+use Rattle.script_forms.specs.Terms.{Unfolded, powers, steps, term}
 use Rattle.script_forms.specs.Unfolded.{unfolded_operation}
-use Rattle.script_forms.specs.Work.{ending, operation_events, steps_events}
+use Rattle.script_forms.specs.Work.{ending, operation_events, powers_events, steps_events}
 use Rattle.sort_check.specs.Views.{operator_of}
 use Rattle.sort_check.specs.declared.operators.Operator.{Operator}
 use Rattle.term_build.specs.Built.{BuilderModel, stand_of}
@@ -28,7 +28,7 @@ use Rattle.term_build.specs.declared.sketch.SketchNode as code
 use Rattle.term_build.specs.declared.stop.Stop.{Stop}
 use Rattle.declared_box.specs.Views.{side_of}
 use Rattle.declared_box.specs.declared.table.Side.{Side}
-use Rattle.value_build.specs.Arithmetic.{events_of_step, operator_of_step, tree_of_step}
+use Rattle.value_build.specs.Arithmetic.{AreNodes, events_of_step, operator_of_step, tree_of_step}
 use Rattle.value_build.specs.Arms.{ArmsMake, Calculates, Folds, LiftsOne, LiftsTwo, Links, LinksEach, LinksWith, SaysAll, SaysTwo, arm_bounds, events_of_leaf, tree_of_leaf}
 use Rattle.value_build.specs.Bounds.{AddsBounds, bounds_of_kind, chained_bounds, first_bounds, weight_of}
 use Rattle.value_build.specs.Chains.{AddsComparisons, AddsConnected, ComparesEach, ConnectsEach, two_of}
@@ -76,6 +76,14 @@ abbrev pub FoldsTrees : Step → BuilderModel → BuilderModel → Place → ℕ
 FoldsTrees step old new at first rest r =
     let ts = (stand_of old).trees in let f = tree_of_step step (place_of at) in let g = events_of_step step (place_of at) in
     Emits old new (steps_events f g (tree_at ts first) (trees_at ts rest)) r (IsTreeOf new (steps f (tree_at ts first) (trees_at ts rest)))
+
+-- these nodes are these trees
+abbrev pub AreTreesOf : BuilderModel → List Unfolded → Numbers → Type 0
+AreTreesOf m us ks = (trees_at (stand_of m).trees ks.items ≡ us) × AreNodes m ks.items
+
+-- the powers of trees, where each that stands in a row with others is one with them
+abbrev pub MakesPowers : BuilderModel → BuilderModel → List ℕ → Result Numbers Stop → Type 0
+MakesPowers old new nodes r = let us = trees_at (stand_of old).trees nodes in Emits old new (powers_events us) r (AreTreesOf new (powers us))
 
 -- what the operator makes of trees
 abbrev pub CalculatesTrees : Step → BuilderModel → BuilderModel → Place → List ℕ → Result ℕ Stop → Type 0

@@ -1,9 +1,11 @@
 // Sums, differences, products and quotients of several trees.
 ghost use Rattle.std.specs.Prelude.{◌≡◌, ◌<◌, length};
-ghost use Rattle.value_build.specs.Arithmetic.{AreNodes, is_difference};
-ghost use Rattle.value_build.specs.Calls.{CalculatesTrees, ComputesStep, FoldsTrees};
+ghost use Rattle.value_build.specs.Arithmetic.{AreNodes, is_difference, is_product};
+ghost use Rattle.value_build.specs.Calls.{CalculatesTrees, ComputesStep, FoldsTrees, MakesPowers};
+ghost use Rattle.value_build.specs.declared.arithmetic.Step.TheVariants.{Multiply};
 
 use script_fault::Place;
+use std::alloc::Global;
 use term_build::{Builder, Stop};
 
 /// A step of two trees.
@@ -52,6 +54,48 @@ fn fold(builder: &mut Builder, at: Place, step: Step, first: u32, rest: &[u32]) 
     Ok(so_far)
 }
 
+// The powers of trees, of which there are some: each that stands in a row with others is one with them.
+fn powers(alloc: Global, builder: &mut Builder, nodes: &[u32]) -> Result<Vec<u32>, Stop>
+    requires some { 0 < length nodes.now }
+    requires nodes { AreNodes builder.old nodes.now }
+    ensures does { MakesPowers builder.old builder.new nodes.now result }
+    ensures sorts { builder.new.sorts ≡ builder.old.sorts }
+{
+    let Some((first, rest)) = nodes.split_first() else {
+        unreachable!()
+    };
+    let mut made = Vec::new(alloc);
+    let mut factor = *first;
+    let mut from = nodes;
+    let mut left = rest;
+    while let Some((next, later)) = left.split_first() {
+        if !builder.repeats(factor, *next) {
+            let power = builder.power(factor, from.len() - left.len())?;
+            made.push(power)?;
+            factor = *next;
+            from = left;
+        }
+        left = later;
+    }
+    let power = builder.power(factor, from.len() - left.len())?;
+    made.push(power)?;
+    Ok(made)
+}
+
+// The product of trees, of which there are some: the powers, and then their product from the left.
+fn multiply(alloc: Global, builder: &mut Builder, at: Place, nodes: &[u32]) -> Result<u32, Stop>
+    requires some { 0 < length nodes.now }
+    requires nodes { AreNodes builder.old nodes.now }
+    ensures does { CalculatesTrees Multiply builder.old builder.new at nodes.now result }
+    ensures sorts { builder.new.sorts ≡ builder.old.sorts }
+{
+    let made = powers(alloc, builder, nodes)?;
+    let Some((first, rest)) = made.split_first() else {
+        unreachable!()
+    };
+    fold(builder, at, Step::Multiply, *first, rest)
+}
+
 /// Whether the step is that of differences.
 pub(crate) fn is_difference(step: Step) -> bool
     ensures { result ≡ is_difference step }
@@ -59,9 +103,17 @@ pub(crate) fn is_difference(step: Step) -> bool
     matches!(step, Step::Subtract)
 }
 
-/// What an arithmetic operator makes of trees, of which there are some: the opposite of one tree for a difference, else
-/// the steps from the left.
+// Whether the step is that of products.
+fn is_product(step: Step) -> bool
+    ensures { result ≡ is_product step }
+{
+    matches!(step, Step::Multiply)
+}
+
+/// What an arithmetic operator makes of trees, of which there are some: their product, the opposite of one tree for a
+/// difference, else the steps from the left.
 pub(crate) fn calculate(
+    alloc: Global,
     builder: &mut Builder,
     at: Place,
     step: Step,
@@ -72,6 +124,9 @@ pub(crate) fn calculate(
     ensures does { CalculatesTrees step builder.old builder.new at nodes.now result }
     ensures sorts { builder.new.sorts ≡ builder.old.sorts }
 {
+    if is_product(step) {
+        return multiply(alloc, builder, at, nodes);
+    }
     let Some((first, rest)) = nodes.split_first() else {
         unreachable!()
     };

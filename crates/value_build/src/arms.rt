@@ -83,7 +83,7 @@ fn is_quotient(step: Step) -> bool
     matches!(step, Step::Divide)
 }
 
-/// What an arithmetic operator makes of a first value and others.
+/// What an arithmetic operator makes of a first value and others, one of which is a Real `ite`.
 pub(crate) fn calculate_values(
     builder: &mut Builder,
     sketch: &mut Vec<SketchNode>,
@@ -95,6 +95,7 @@ pub(crate) fn calculate_values(
     requires known { IsSomeValue builder.old (drawn sketch.old) first }
     requires rest { AreSomeValues builder.old (drawn sketch.old) rest.now }
     requires arms { are_arms (first ∷ rest.now) ≡ true }
+    requires held { hold_choice (first ∷ rest.now) ≡ true }
     requires sketched { IsSketch builder.old (drawn sketch.old) }
     ensures does { Yields builder.old sketch.old builder.new sketch.new
         at step first rest.now result }

@@ -191,13 +191,19 @@ fn takes(operator: Operator, reals: bool, bools: bool, picked: bool, count: usiz
 // ---- Real arguments
 
 // A sum, a difference, a product or a quotient.
-fn arithmetic(maker: &mut Maker, at: Place, step: Step, nodes: &[u32]) -> Result<Value, Stop>
+fn arithmetic(
+    alloc: Global,
+    maker: &mut Maker,
+    at: Place,
+    step: Step,
+    nodes: &[u32],
+) -> Result<Value, Stop>
     requires some { 0 < length nodes.now }
     requires nodes { AreNodes maker.old.made nodes.now }
     ensures does { TreesMake maker.old maker.new at step nodes.now result }
     ensures sorts { maker.new.made.sorts ≡ maker.old.made.sorts }
 {
-    match calculate(&mut maker.builder, at, step, nodes) {
+    match calculate(alloc, &mut maker.builder, at, step, nodes) {
         Ok(node) => Ok(Value::Real(node)),
         Err(stop) => {
             give_up(&mut maker.sketch);
@@ -250,10 +256,10 @@ fn on_reals(
     ensures sorts { maker.new.made.sorts ≡ maker.old.made.sorts }
 {
     match operator {
-        Operator::Minus => arithmetic(maker, at, Step::Subtract, nodes),
-        Operator::Plus => arithmetic(maker, at, Step::Add, nodes),
-        Operator::Times => arithmetic(maker, at, Step::Multiply, nodes),
-        Operator::Divide => arithmetic(maker, at, Step::Divide, nodes),
+        Operator::Minus => arithmetic(alloc, maker, at, Step::Subtract, nodes),
+        Operator::Plus => arithmetic(alloc, maker, at, Step::Add, nodes),
+        Operator::Times => arithmetic(alloc, maker, at, Step::Multiply, nodes),
+        Operator::Divide => arithmetic(alloc, maker, at, Step::Divide, nodes),
         Operator::AtMost => compare(alloc, maker, at, nodes, Kind::Le),
         Operator::Below => compare(alloc, maker, at, nodes, Kind::Le),
         Operator::AtLeast => compare(alloc, maker, at, nodes, Kind::Ge),

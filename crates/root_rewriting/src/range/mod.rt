@@ -19,5 +19,5 @@ mod side;
 mod sweep;
 
 pub use arena::enclosures;
-pub use quotients::{misses_nought, quotient_range};
+pub use quotients::{avoids_nought, quotient_range};
 pub use roots::root_bound;

@@ -1,18 +1,17 @@
 // The ranges of quotients.
 ghost use Rattle.std.specs.Prelude.{◌≡◌};
-ghost use Rattle.interval_model.specs.Interval.{misses_nought};
 ghost use Rattle.ival.specs.Views.{interval_of};
-ghost use Rattle.script_roots.specs.Ranges.{quotient_range};
+ghost use Rattle.script_roots.specs.Ranges.{avoids_nought, quotient_range};
 
 use dyadic::{Sign, sign_of};
 use ival::Ival;
 
-/// Whether 0 lies outside an interval that is not empty.
-pub fn misses_nought(range: Ival) -> bool
-    ensures { result ≡ misses_nought (interval_of range) }
+/// Whether 0 does not lie in an interval.
+pub fn avoids_nought(range: Ival) -> bool
+    ensures { result ≡ avoids_nought (interval_of range) }
 {
     match range {
-        Ival::Empty => false,
+        Ival::Empty => true,
         Ival::Between(ends) => {
             matches!(sign_of(ends.high), Sign::Below) || matches!(sign_of(ends.low), Sign::Above)
         }
@@ -24,7 +23,7 @@ pub fn quotient_range(dividend: Ival, divisor: Ival) -> Ival
     ensures { interval_of result ≡
         quotient_range (interval_of dividend) (interval_of divisor) }
 {
-    if misses_nought(divisor) {
+    if avoids_nought(divisor) {
         dividend.inv_mul(divisor)
     } else {
         Ival::everything()

@@ -1,7 +1,8 @@
 // The ranges of declared constants.
-ghost use Rattle.std.specs.Prelude.{◌≡◌, ◌∷◌, ◌++◌, ℕ, [], List, IsTrue, length, map, IfOk};
+ghost use Rattle.std.specs.Prelude.{◌≡◌, ◌∷◌, ◌++◌, ℕ, [], List, Bool, IsTrue, cond, ◌||◌, length, map, IfOk};
 ghost use Rattle.dyadic.specs.End.{greater_ext, lesser_ext};
 ghost use Rattle.dyadic.specs.Views.{ext_of};
+ghost use Rattle.interval_model.specs.Interval.{is_nothing, nothing};
 ghost use Rattle.ival.specs.Proper.{is_high, is_low};
 ghost use Rattle.ival.specs.Views.{interval_of};
 ghost use Rattle.root_rewriting.specs.Asserted.{AreAsserted};
@@ -9,7 +10,7 @@ ghost use Rattle.root_rewriting.specs.Nodes.{trees_in};
 ghost use Rattle.script_model.specs.Declared.{default_high, default_low};
 ghost use Rattle.script_roots.specs.Fresh as fresh;
 ghost use Rattle.script_roots.specs.TreeBounds as model;
-ghost use Rattle.script_roots.specs.TreeBounds.{ranges_from};
+ghost use Rattle.script_roots.specs.TreeBounds.{box_ranges, in_box, is_empty_from, ranges_from};
 ghost use Rattle.smt_script.specs.Views.{commands_in, sort_of};
 ghost use Rattle.root_rewriting.specs.Bounds.{AreTightest, bounds_of, end_of, range_with, tightened_on, tightest_by, with_end};
 ghost use Rattle.root_rewriting.specs.Constants.{constant_of};
@@ -136,7 +137,69 @@ fn range(bound: Option<u32>, bounds: Bounds, sort: Sort) -> Ival
     }
 }
 
-// The ranges of constants with these ends, by name.
+// Whether an interval is empty.
+fn is_nothing(range: Ival) -> bool
+    ensures { result ≡ is_nothing (interval_of range) }
+{
+    matches!(range, Ival::Empty)
+}
+
+fn either(one: bool, other: bool) -> bool
+    ensures { result ≡ (one || other) }
+{
+    one || other
+}
+
+// Whether the range of one of these constants is empty.
+fn is_empty(bound: Option<u32>, constants: &[Constant<'_>], bounds: &[Bounds]) -> bool
+    requires { length bounds.now ≡ length constants.now }
+    ensures { (es : List model.EndBound) → AreTightest es (length constants.now) bounds.now →
+        result ≡ is_empty_from (model.range_of bound es) 0 (map constant_of constants.now) }
+{
+    let mut empty = false;
+    for (axis, constant) in constants.iter().enumerate() {
+        let here = is_nothing(range(bound, bounds[axis], constant.sort));
+        empty = either(empty, here);
+    }
+    empty
+}
+
+// The range of a constant of this sort with these ends, in a box that is empty or not.
+fn range_in(empty: bool, bound: Option<u32>, bounds: Bounds, sort: Sort) -> Ival
+    ensures { interval_of result ≡
+        cond empty nothing (range_with bound (bounds_of bounds) (sort_of sort)) }
+{
+    if empty {
+        Ival::Empty
+    } else {
+        range(bound, bounds, sort)
+    }
+}
+
+// The ranges of constants with these ends, in a box that is empty or not, by name.
+fn ranges_in<'a>(
+    alloc: Global,
+    empty: bool,
+    bound: Option<u32>,
+    constants: &[Constant<'a>],
+    bounds: &[Bounds],
+) -> Result<HashMap<&'a [u8], Ival>, AllocError>
+    requires { length bounds.now ≡ length constants.now }
+    ensures { (es : List model.EndBound) → AreTightest es (length constants.now) bounds.now →
+        IfOk result (λ m. KnowsRanges m (ranges_from (in_box empty (model.range_of bound es)) 0 []
+        (map constant_of constants.now))) }
+{
+    let mut ranges = HashMap::new(alloc);
+    for (axis, constant) in constants.iter().enumerate() {
+        ranges.insert(
+            constant.name.as_slice(),
+            range_in(empty, bound, bounds[axis], constant.sort),
+        )?;
+    }
+    Ok(ranges)
+}
+
+// The ranges of constants with these ends, by name: where one is empty all are.
 fn ranges<'a>(
     alloc: Global,
     bound: Option<u32>,
@@ -146,16 +209,10 @@ fn ranges<'a>(
     requires { length bounds.now ≡ length constants.now }
     ensures { (es : List model.EndBound) → AreTightest es (length constants.now) bounds.now →
         IfOk result (λ m. KnowsRanges m
-        (ranges_from (model.range_of bound es) 0 [] (map constant_of constants.now))) }
+        (box_ranges (model.range_of bound es) (map constant_of constants.now))) }
 {
-    let mut ranges = HashMap::new(alloc);
-    for (axis, constant) in constants.iter().enumerate() {
-        ranges.insert(
-            constant.name.as_slice(),
-            range(bound, bounds[axis], constant.sort),
-        )?;
-    }
-    Ok(ranges)
+    let empty = is_empty(bound, constants, bounds);
+    ranges_in(alloc, empty, bound, constants, bounds)
 }
 
 /// The ranges of a script's declared constants, by name.

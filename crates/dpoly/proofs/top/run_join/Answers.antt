@@ -14,7 +14,7 @@ pub returns-in-Ok-clause-course : goal.returns-in-Ok-clause-course
 returns-in-Ok-clause-course g c script cert_in parts tells =
     let all : c.len.result ≡ length c.args.asked.certs.items = grind (arith, common_steps) in
     run_several (seen_join c.args.asked) script cert_in parts c.in-Ok.script c.len.result (g.D.Desk.sight c.args.desk.now) (g.D.Desk.sight c.fetch_several.new.desk) (g.D.Desk.sight c.join_inputs.new.desk) c.join_inputs.result c.in-Ok.ensures tells.0 tells.1 tells.2
-    (all ∙ sym (length-map c.args.asked.certs.items (λ s. s.now))) c.requires c.join_inputs.ensures.ends
+    (all ∙ sym (length-map c.args.asked.certs.items (λ s. s.now))) c.join_inputs.ensures.ends
 
 pub returns-in-Ok-clause-cause : goal.returns-in-Ok-clause-cause
 returns-in-Ok-clause-cause g c =

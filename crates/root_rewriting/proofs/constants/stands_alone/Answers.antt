@@ -1,5 +1,5 @@
 use Rattle.std.proofs.Common.{◌≡◌, ◌∙◌, ◌&&◌, refl, sym, ap, arith}
-use Rattle.interval_model.specs.Interval.{misses_nought}
+use Rattle.script_roots.specs.Ranges.{avoids_nought}
 use Rattle.ival.specs.Views.{interval_of}
 use Rattle.script_roots.specs.Ranges.{enclosed}
 use Rattle.root_rewriting.specs.Nodes.{tree_at, trees_in}
@@ -12,17 +12,17 @@ returns-then-can_stand c = λ names e.
     let ts = trees_in c.args.trees.now in
     let t = tree_at ts c.args.dividend in
     let d = tree_at ts c.args.divisor in
-    let m = c.misses_nought.result in
+    let m = c.avoids_nought.result in
     let here : interval_of c.index-ranges-divisor.result ≡ enclosed names d =
     enclosed_there names ts c.args.ranges.now c.args.divisor c.index-ranges-divisor.result e (omega (arith, c.requires.all, c.requires.divisor)) (omega (arith, nodes_length c.args.trees.now, c.requires.divisor)) c.index-ranges-divisor.is in
     ap (λ b. b && m) (sym c.if-can_stand.true ∙ c.can_stand.ensures) ∙
-    alone_is names t d c.facts-over.result c.facts-under.result m c.facts-over.ensures c.facts-under.ensures (c.misses_nought.ensures ∙ ap misses_nought here)
+    alone_is names t d c.facts-over.result c.facts-under.result m c.facts-over.ensures c.facts-under.ensures (c.avoids_nought.ensures ∙ ap avoids_nought here)
 
 pub returns-else-can_stand : goal.returns-else-can_stand
 returns-else-can_stand c = λ names e.
     let ts = trees_in c.args.trees.now in
     let t = tree_at ts c.args.dividend in
     let d = tree_at ts c.args.divisor in
-    let m = misses_nought (enclosed names d) in
+    let m = avoids_nought (enclosed names d) in
     c.if-can_stand.false ∙ ap (λ b. b && m) (sym c.if-can_stand.false ∙ c.can_stand.ensures) ∙
     alone_is names t d c.facts-over.result c.facts-under.result m c.facts-over.ensures c.facts-under.ensures refl

@@ -47,7 +47,7 @@ returns-in_ok-push-in-Quotient-clause-claims c = λ ranged names table e.
     let under : interval_of c.index-ranges-divisor.result ≡ enclosed ranged (tree_at ts d) =
     enclosed_there ranged ts c.args.ranges.now d c.index-ranges-divisor.result e (omega (arith, lt.1, c.requires.all, c.requires.tree)) (omega (arith, lt.1, nodes_length c.args.trees.now, c.requires.tree)) c.index-ranges-divisor.is in
     more_claims names table ts old c.push.new.self.items (ends ++ (last ∷ [])) (claims_of ranged table (get_or names i []) (tree_at ts c.args.tree))
-    (c.in_ok-push-in-Quotient.ensures.items ∙ ap (λ us. us ++ (last ∷ [])) c.in_ok-push_ends-in-Quotient.ensures ∙ append_assoc old ends (last ∷ []))
+    (c.in_ok-push-in-Quotient.ensures.items ∙ ap (λ us. us ++ (last ∷ [])) (c.in_ok-extend_from_slice-in-Quotient.ensures.items ∙ ap (λ us. old ++ us) c.end_drafts.ensures) ∙ append_assoc old ends (last ∷ []))
     (quotient_claims names table ts ranged c.in-Quotient.place i k d range (c.quotient_range-range.ensures ∙ ap₂ quotient_range over under) ∙ ap (claims_of ranged table (get_or names i [])) (sym is))
 
 pub returns-in_default : goal.returns-in_default

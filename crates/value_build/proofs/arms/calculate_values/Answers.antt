@@ -33,7 +33,7 @@ pub fold_values-requires-clause-known : goal.fold_values-requires-clause-known
 fold_values-requires-clause-known c = subst (λ (a : Arm). IsSomeArm c.args.builder.now (map sketch_of c.args.sketch.now.items) a) (sym c.arm_of-2.ensures) (some_arm c.args.builder.now (map sketch_of c.args.sketch.now.items) c.args.first (arms_head c.args.first c.args.rest.now c.requires.arms) c.requires.known)
 
 pub returns-clause-does : goal.returns-clause-does
-returns-clause-does c = folds_calculate c.args.builder.now c.fold_values.new.builder (map sketch_of c.args.sketch.now.items) (map sketch_of c.fold_values.new.sketch.items) (place_of c.args.at) c.args.step c.args.first c.args.rest.now c.fold_values.result (arms_head c.args.first c.args.rest.now c.requires.arms)
+returns-clause-does c = folds_calculate c.args.builder.now c.fold_values.new.builder (map sketch_of c.args.sketch.now.items) (map sketch_of c.fold_values.new.sketch.items) (place_of c.args.at) c.args.step c.args.first c.args.rest.now c.fold_values.result (arms_head c.args.first c.args.rest.now c.requires.arms) c.requires.held
     (λ d e. elim c.else-is_difference.branch [ else-is_difference-via-then-is_difference+else-is_empty w ↦ not_empty c.args.rest.now w.if-is_empty.ensures e | else-is_difference-via-else-is_difference w ↦ true≢false (sym d ∙ sym w.if-is_difference.ensures) ])
     (λ q. elim c.else-is_quotient.branch [ else-is_quotient-via-then-is_quotient+else-hold_choice w ↦ sym w.if-hold_choice.ensures | else-is_quotient-via-else-is_quotient w ↦ absurd (true≢false (sym q ∙ sym w.if-is_quotient.ensures)) ])
     (subst (λ (a : Arm). Folds c.args.builder.now (map sketch_of c.args.sketch.now.items) c.fold_values.new.builder (map sketch_of c.fold_values.new.sketch.items) (place_of c.args.at) c.args.step a c.args.rest.now c.fold_values.result) c.arm_of-2.ensures c.fold_values.ensures.does)

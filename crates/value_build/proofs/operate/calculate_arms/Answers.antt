@@ -32,6 +32,9 @@ calculate_values-requires-clause-known c = let k = subst (λ (xs : List Value). 
 pub calculate_values-requires-clause-rest : goal.calculate_values-requires-clause-rest
 calculate_values-requires-clause-rest c = let k = subst (λ (xs : List Value). AreSomeValues c.maker.inside.builder (map sketch_of c.maker.inside.sketch.items) xs) c.in-Some.ensures.cases.0 (subst (λ (x : Making). AreSomeValues x.made x.drawn c.args.values.now) (sym c.maker.view_is) (c.args.maker.now.bounds, c.requires.values.0, c.requires.values.1, c.requires.values.2)) in later_values c.maker.inside.builder (map sketch_of c.maker.inside.sketch.items) c.in-Some.first.now c.in-Some.rest.now k
 
+pub calculate_values-requires-clause-held : goal.calculate_values-requires-clause-held
+calculate_values-requires-clause-held c = subst (λ (xs : List Value). hold_choice xs ≡ true) c.in-Some.ensures.cases.0 (holds c.args.values.now c.requires.held c.requires.arms)
+
 pub returns-in-Ok-Choice-clause-does : goal.returns-in-Ok-Choice-clause-does
 returns-in-Ok-Choice-clause-does c = subst (λ (x : Making). ArmsMake x (making c.calculate_values.new.builder (map sketch_of c.calculate_values.new.sketch.items) c.maker.inside.bounds) (place_of c.args.at) (operator_of_step c.args.step) c.args.values.now (Ok (values.Choice c.in-Ok-Choice.k))) c.maker.view_is
     (subst (λ (vs : List Value). ArmsMake (making c.maker.inside.builder (map sketch_of c.maker.inside.sketch.items) c.maker.inside.bounds) (making c.calculate_values.new.builder (map sketch_of c.calculate_values.new.sketch.items) c.maker.inside.bounds) (place_of c.args.at) (operator_of_step c.args.step) vs (Ok (values.Choice c.in-Ok-Choice.k))) (sym c.in-Some.ensures.cases.0)

@@ -1,20 +1,11 @@
-use Rattle.std.proofs.Common.{Some, ap, arith, sym, ◌∙◌}
-use Rattle.std.proofs.lemmas.Option.{slice_get-get_or}
-use Rattle.ival.specs.Views.{interval_of}
-use Rattle.script_roots.specs.TreeBounds.{range_of}
-use Rattle.smt_script.specs.Views.{sort_of}
-use Rattle.root_rewriting.specs.Bounds.{range_with}
-use Rattle.root_rewriting.proofs.Counted.{range_more}
-use Rattle.root_rewriting.proofs.RangeNames.{knows_none}
-use Rattle.root_rewriting.proofs.Tightest.{range_by}
+use Rattle.std.proofs.Common.{[], map, subst}
+use Rattle.std.specs.Prelude.{Bool, IfOk}
+use Rattle.script_roots.specs.TreeBounds.{in_box, range_of, ranges_from}
+use Rattle.root_rewriting.specs.Constants.{constant_of}
+use Rattle.root_rewriting.specs.Enclosures.{KnowsRanges}
 use Rattle.root_rewriting.proofs.range.ranges.ranges.Goals as goal
 
-pub loop-axis-init : goal.loop-axis-init
-loop-axis-init c = λ es h. knows_none interval_of c.new-ranges.result c.new-ranges.ensures.empty
-
-pub loop-axis-preserved : goal.loop-axis-preserved
-loop-axis-preserved c = λ es h. let k = c.loop-axis.axis in let x = c.index-constants-axis.result in let b = c.index-bounds-axis.result in let n = h.count in
-    range_more c.args.constants.now k x c.loop-axis-test.true c.index-constants-axis.is (range_of c.args.bound es)
-    c.loop-axis.ranges c.insert.new.self c.as_slice.result.now c.range.result (c.loop-axis.invariant es h) c.as_slice.ensures c.in_ok-insert.ensures.updates
-    (c.range.ensures ∙ ap (λ t. range_with c.args.bound t (sort_of x.sort))
-    (h.are k b (slice_get-get_or c.args.bounds.now k b (omega (arith, c.loop-axis-test.true, n)) ∙ ap (λ d. Some d) (sym c.index-bounds-axis.is))) ∙ range_by c.args.bound es k (sort_of x.sort))
+pub returns : goal.returns
+returns c = λ es h. let range = range_of c.args.bound es in
+    subst (λ (empty : Bool). IfOk c.ranges_in.result (λ m. KnowsRanges m (ranges_from (in_box empty range) 0 [] (map constant_of c.args.constants.now))))
+    (c.is_empty-empty.ensures es h) (c.ranges_in.ensures es h)

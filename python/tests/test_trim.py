@@ -1,0 +1,68 @@
+"""`python3 -m dpoly trim` and `coq`, by certificates that are written here."""
+import argparse
+import contextlib
+import io
+import os
+import tempfile
+import unittest
+
+from dpoly import plain
+
+HEAD = "dpoly 2\nmargin 20\ndelta 10\nbound none\n"
+SCRIPT = "(declare-const x Real)(assert (<= 0 x 1))(assert (>= (* 1 x) (/ 3 4)))(assert (<= (* 1 x) (/ 1 4)))(check-sat)"
+# lines, and what is left of them
+ROWS = [
+    ("cover 0/tree/unit 2/unit 3/pull 2/void 3/end", "cover 0/tree/unit 2/unit 3/pull 2/void 3/end"),
+    ("cover 0/tree/unit 0/unit 2/unit 3/pull 2/pull 2/void 3/end", "cover 0/tree/unit 2/unit 3/pull 2/void 3/end"),
+    ("cover 0/tree/cut 0 1b-1/unit 2/void 2/unit 3/void 3/end", "cover 0/tree/cut 0 1b-1/unit 2/void 2/unit 3/void 3/end"),
+    ("cover 0/tree/case 1/unit 2/unit 3/pull 2/void 3/unit 2/unit 3/pull 2/void 3/end", "cover 0/tree/unit 2/unit 3/pull 2/void 3/end"),
+    ("cover 1/lemma 0/real 0 1b0/yes 1 2 3/no/pull 2/void 3/tree/unit 1/unit 2/unit 3/by 0/end",
+     "cover 1/lemma 0/real 0 1b0/yes 2 3/no/pull 2/void 3/tree/unit 2/unit 3/by 0/end"),
+    ("cover 1/lemma 0/real 0 1b0/yes 2 3/no/pull 2/void 3/tree/unit 2/unit 3/pull 2/void 3/end",
+     "cover 0/tree/unit 2/unit 3/pull 2/void 3/end"),
+]
+
+
+def command(words):
+    """The exit status of `python3 -m dpoly` with these words."""
+    parser = argparse.ArgumentParser()
+    plain.add_commands(parser.add_subparsers(dest="command"))
+    parsed = parser.parse_args(words)
+    return parsed.run(parsed)
+
+
+class Trim(unittest.TestCase):
+    def test_rows(self):
+        from dpoly import trim
+
+        for lines, wanted in ROWS:
+            certificate = (HEAD + lines.replace("/", "\n") + "\n").encode()
+            found = trim.trim_fully(SCRIPT.encode(), certificate)
+            with self.subTest(lines):
+                self.assertEqual(found.decode(), HEAD + wanted.replace("/", "\n") + "\n")
+                self.assertEqual(plain.checker.check(SCRIPT.encode(), found), plain.checker.check(SCRIPT.encode(), certificate))
+
+    def test_command(self):
+        with tempfile.TemporaryDirectory() as folder:
+            paths = [os.path.join(folder, it) for it in ("s.smt2", "c.cert", "out.cert")]
+            for path, text in zip(paths, (SCRIPT, HEAD + ROWS[1][0].replace("/", "\n"))):
+                with open(path, "w") as file:
+                    file.write(text)
+            said = io.StringIO()
+            with contextlib.redirect_stdout(said):
+                self.assertEqual(command(["trim", *paths]), 0)
+            self.assertEqual(said.getvalue(), "lines 12 -> 11\n")
+            with contextlib.redirect_stdout(said):
+                self.assertEqual(command(["coq", *paths[:2], "--name", "apart"]), 0)
+            self.assertIn("Theorem apart :", said.getvalue())
+
+    def test_open_boxes(self):
+        from dpoly import trim
+
+        lines = HEAD + "cover 0\ntree\ncut 0 1b-1\nopen\nfalse\nend\n"
+        with self.assertRaises(trim.Untrimmed):
+            trim.trim(SCRIPT.encode(), lines.encode())
+
+
+if __name__ == "__main__":
+    unittest.main()
