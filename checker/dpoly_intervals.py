@@ -1,124 +1,206 @@
-"""Intervals with ends of the grid, for the checker in plain Python (`dpoly_checker.py`)."""
-from math import inf, isqrt
+"""Intervals with ends of the grid, for the checker in plain Python (`dpoly_checker.py`).
 
-# An end is a whole number of units of 2^-120, as every number of the grid is, or an infinity. An interval is a pair of a lower
-# and an upper end; None is the empty one.
-UNIT = 1 << 120  # so many of them are 1
-TOP = 1 << 242  # the greatest number of the grid, 2^122
+An end is a whole number of units of 2^-120, as every number of the grid is. An infinite end is a
+number so great that every operation below answers what docs/FORMATS.md asks of an infinity: it
+times 0 is 0, it times any other end and any sum with it is beyond the grid, and what is beyond the
+grid is rounded to an infinity. An interval is a pair of a lower and an upper end; None is the
+empty one. Most of the time of a check goes by in `plus`, `less`, `times` and `square`, so rounding
+is written out in them.
+"""
+from __future__ import annotations
+
+from fractions import Fraction
+from math import isqrt
+from typing import Optional, Tuple
+
+End = int
+Interval = Tuple[End, End]
+
+UNIT = 1 << 120  # so many units are 1
+GREATEST = UNIT << 122  # the greatest number of the grid
+INFINITE = 1 << 400  # beyond what a product of two numbers of the grid can be
+MANTISSA = 62  # bits of a number of the grid
+# An end of more bits may be beyond the grid. A product has 120 bits below the units besides.
+WIDEST = GREATEST.bit_length() - MANTISSA - 1
+PRODUCT = MANTISSA + 120
+
+NOUGHT: Interval = (0, 0)
+LINE: Interval = (-INFINITE, INFINITE)
 
 
-def down(numerator, denominator=1):
+# ---------------------------------------------------------------- Rounding
+def low_end(end: End) -> End:
+    """A lower end of at most 62 bits, brought back to the grid where it is beyond."""
+    return GREATEST if end > GREATEST else -INFINITE if end < -GREATEST else end
+
+
+def high_end(end: End) -> End:
+    return -low_end(-end)
+
+
+def down(numerator: int, denominator: int = 1) -> End:
     """The greatest end that is not above numerator/denominator units."""
-    if numerator.__class__ is float:
-        return numerator
     whole = numerator // denominator
-    shift = whole.bit_length() - 62
-    if shift <= 0:
-        return whole
-    if shift > 180 and abs(whole) > TOP:
-        return TOP if whole > 0 else -inf
-    return whole >> shift << shift
+    shift = whole.bit_length() - MANTISSA
+    return low_end(whole >> shift << shift) if shift > 0 else whole
 
 
-def up(numerator, denominator=1):
+def up(numerator: int, denominator: int = 1) -> End:
     """The least end that is not below numerator/denominator units."""
     return -down(-numerator, denominator)
 
 
-def rounded(fraction):
-    return down(fraction.numerator * UNIT, fraction.denominator), up(fraction.numerator * UNIT, fraction.denominator)
+def rounded(fraction: Fraction) -> Interval:
+    """The least interval that holds a fraction."""
+    numerator, denominator = fraction.numerator * UNIT, fraction.denominator
+    return down(numerator, denominator), up(numerator, denominator)
 
 
-def meet(a, b):
+# ---------------------------------------------------------------- Sets
+def meet(a: Optional[Interval], b: Optional[Interval]) -> Optional[Interval]:
     """What two intervals have in common."""
     if a is None or b is None:
         return None
-    low, high = max(a[0], b[0]), min(a[1], b[1])
+    low, high = a
+    other_low, other_high = b
+    if low < other_low:
+        low = other_low
+    if high > other_high:
+        high = other_high
     return (low, high) if low <= high else None
 
 
-def within(a, b):
+def within(a: Interval, b: Interval) -> bool:
     return b[0] <= a[0] and a[1] <= b[1]
 
 
-def minus(a):
+# ---------------------------------------------------------------- Operations
+def minus(a: Interval) -> Interval:
     return -a[1], -a[0]
 
 
-def ends(low, high):
-    """Two ends, each a whole number of units or an infinity, rounded outward. Most of the time of a check goes by here, and in
-    `times`, so the rounding of `down` is written out."""
-    if low.__class__ is int:
-        shift = low.bit_length() - 62
-        if shift > 0:
-            low = low >> shift << shift if shift < 181 else down(low)
-    if high.__class__ is int:
-        shift = high.bit_length() - 62
-        if shift > 0:
-            high = -(-high >> shift << shift) if shift < 181 else up(high)
+def outward(low: End, high: End) -> Interval:
+    """Two ends, each a whole number of units, rounded outward."""
+    shift = low.bit_length() - MANTISSA
+    if shift > 0:
+        low = low >> shift << shift
+        if shift > WIDEST:
+            low = low_end(low)
+    shift = high.bit_length() - MANTISSA
+    if shift > 0:
+        high = -(-high >> shift << shift)
+        if shift > WIDEST:
+            high = high_end(high)
     return low, high
 
 
-def plus(a, b):
-    return ends(a[0] + b[0], a[1] + b[1])
+def plus(a: Interval, b: Interval) -> Interval:
+    return outward(a[0] + b[0], a[1] + b[1])
 
 
-def less(a, b):
-    return ends(a[0] - b[1], a[1] - b[0])
+def less(a: Interval, b: Interval) -> Interval:
+    return outward(a[0] - b[1], a[1] - b[0])
 
 
-def times(a, b):
-    (x0, x1), (y0, y1) = a, b
-    if x0.__class__ is float or x1.__class__ is float or y0.__class__ is float or y1.__class__ is float:
-        products = [x * y if x and y else 0 for x in a for y in b]
-        return down(min(products), UNIT), up(max(products), UNIT)
-    if x0 >= 0 and y0 >= 0:
-        low, high = x0 * y0, x1 * y1
+def outward_product(low: int, high: int) -> Interval:
+    """Two products of ends, each a whole number of 2^-120 units, as units rounded outward."""
+    shift = low.bit_length() - PRODUCT
+    if shift > 0:
+        low = low >> shift + 120 << shift
+        if shift > WIDEST:
+            low = low_end(low)
     else:
-        products = x0 * y0, x0 * y1, x1 * y0, x1 * y1
-        low, high = min(products), max(products)
-    return ends(low >> 120, -(-high >> 120))
+        low >>= 120
+    shift = high.bit_length() - PRODUCT
+    if shift > 0:
+        high = -(-high >> shift + 120 << shift)
+        if shift > WIDEST:
+            high = high_end(high)
+    else:
+        high = -(-high >> 120)
+    return low, high
 
 
-def square(a):
+def times(a: Interval, b: Interval) -> Interval:
+    """The product, by the signs of the ends (Moore 1966)."""
+    a_low, a_high = a
+    b_low, b_high = b
+    if a_low >= 0:
+        if b_low >= 0:
+            return outward_product(a_low * b_low, a_high * b_high)
+        if b_high <= 0:
+            return outward_product(a_high * b_low, a_low * b_high)
+        return outward_product(a_high * b_low, a_high * b_high)
+    if a_high <= 0:
+        if b_low >= 0:
+            return outward_product(a_low * b_high, a_high * b_low)
+        if b_high <= 0:
+            return outward_product(a_high * b_high, a_low * b_low)
+        return outward_product(a_low * b_high, a_low * b_low)
+    if b_low >= 0:
+        return outward_product(a_low * b_high, a_high * b_high)
+    if b_high <= 0:
+        return outward_product(a_high * b_low, a_low * b_low)
+    return outward_product(min(a_low * b_high, a_high * b_low),
+                           max(a_low * b_low, a_high * b_high))
+
+
+def square(a: Interval) -> Interval:
     low, high = a
-    if low.__class__ is float or high.__class__ is float:
-        low, high = sorted((low * low, high * high))
-        return 0 if a[0] <= 0 <= a[1] else down(low, UNIT), up(high, UNIT)
     if low < 0:
         low, high = (0, max(-low, high)) if high >= 0 else (-high, -low)
-    return ends(low * low >> 120, -(-(high * high) >> 120))
+    return outward_product(low * low, high * high)
 
 
-def quotient(x, y):
-    """A quotient of ends, as numerator and denominator."""
-    if isinstance(y, float):
-        return 0, 1
-    return (x if y > 0 else -x, 1) if isinstance(x, float) else (x * UNIT, y)
+# ---------------------------------------------------------------- Inverse operations
+def quotient_down(x: End, y: End) -> End:
+    """The quotient of two ends, the second not 0, rounded down; by an infinity it is 0."""
+    return down(x * UNIT, y) if -INFINITE < y < INFINITE else 0
 
 
-def factor(n, o):
+def quotient_up(x: End, y: End) -> End:
+    return -quotient_down(-x, y)
+
+
+def quotient(n: Interval, o: Interval) -> Interval:
+    """From the least to the greatest of the quotients of the ends, where 0 is not in `o`."""
+    (n_low, n_high), (o_low, o_high) = n, o
+    if o_high < 0:
+        n_low, n_high, o_low, o_high = -n_high, -n_low, -o_high, -o_low
+    return (quotient_down(n_low, o_low if n_low < 0 else o_high),
+            quotient_up(n_high, o_high if n_high < 0 else o_low))
+
+
+def factor(n: Interval, o: Interval) -> Optional[Interval]:
     """What a product leaves to the factor beside `o`, where `n` is its narrowed interval."""
-    if o[0] > 0 or o[1] < 0:
-        quotients = [quotient(x, y) for x in n for y in o]
-        return min(down(*it) for it in quotients), max(up(*it) for it in quotients)
-    if n[0] <= 0 <= n[1]:
-        return -inf, inf
-    if 0 not in o or o == (0, 0):
-        return (-inf, inf) if 0 not in o else None
-    near, end = (n[0] if n[0] > 0 else n[1]), o[0] or o[1]  # the end of n that is nearer to 0, and that of o that is not 0
-    return (down(*quotient(near, end)), inf) if (near > 0) == (end > 0) else (-inf, up(*quotient(near, end)))
+    (n_low, n_high), (o_low, o_high) = n, o
+    if o_low > 0 or o_high < 0:
+        return quotient(n, o)
+    if n_low <= 0 <= n_high:
+        return LINE
+    if o_low < 0 < o_high:
+        return LINE
+    if o_low == o_high:
+        return None
+    near = n_low if n_low > 0 else n_high  # the end of n that is nearer to 0
+    end = o_low or o_high  # that of o that is not 0
+    if (near > 0) == (end > 0):
+        return quotient_down(near, end), INFINITE
+    return -INFINITE, quotient_up(near, end)
 
 
-def root(n, enclosure):
-    """What a square leaves to its operand, where `n` is its narrowed interval, in which no number is below 0."""
+def root(n: Interval, enclosure: Interval) -> Optional[Interval]:
+    """What a square leaves to its operand, where `n` is its narrowed interval, in which no number
+    is below 0."""
     low = down(isqrt(n[0] * UNIT))
-    high = inf if n[1] == inf else up(isqrt(n[1] * UNIT - 1) + 1) if n[1] else 0
-    parts = [it for it in (meet(enclosure, (-high, -low)), meet(enclosure, (low, high))) if it]
-    return (min(it[0] for it in parts), max(it[1] for it in parts)) if parts else None
+    high = up(isqrt(n[1] * UNIT - 1) + 1) if n[1] else 0
+    negative, positive = meet(enclosure, (-high, -low)), meet(enclosure, (low, high))
+    if negative is None or positive is None:
+        return negative or positive
+    return min(negative[0], positive[0]), max(negative[1], positive[1])
 
 
-def root_within(v, d):
+def root_within(v: Interval, d: Interval) -> Optional[Interval]:
     """The root of `v` within `d`."""
     part = meet(v, square(d))
     return root(part, d) if part else None
