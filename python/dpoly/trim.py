@@ -17,6 +17,7 @@ from .plain import checker  # isort: skip
 from dpoly_intervals import UNIT  # noqa: E402
 from dpoly_script import ScriptFault  # noqa: E402
 
+WORDS = {domain: word for word, domain in checker.DOMAINS.items()}
 # What a line may need: ("low" or "high", axis), ("bool", axis) or ("mark", atom).
 Need = Tuple[str, int]
 
@@ -131,7 +132,8 @@ class Follower:
             given = frozenset({("bool" if word == "flip" else "mark", first)})
             return Line(text, 2, (given, given), none), left
         if word == "over":
-            return Line(text, 0, (), frozenset(self.ends(self.problem.goal)) if self.cover.lower != -checker.inf else none), left
+            has_bound = self.cover.lower != -checker.INFINITE
+            return Line(text, 0, (), frozenset(self.ends(self.problem.goal)) if has_bound else none), left
         return Line(text, 0, (), none), left
 
     def tree(self, lines: Any, state: Any, main: bool) -> Iterator[Line]:
@@ -207,7 +209,7 @@ def read_lemma(follower: Follower, lines: Any, at: int, may_widen: bool) -> Lemm
                 space[axis] = (it[0] if ("low", axis) in found.needs else min(it[0], low),
                                it[1] if ("high", axis) in found.needs else max(it[1], high))
             elif ("bool", axis) not in found.needs:
-                space[axis] = (False, True)
+                space[axis] = checker.DOMAINS["both"]
         marks = {atom: mark for atom, mark in marks.items() if ("mark", atom) in found.needs}
     state = checker.State(tuple(space), marks)
     cover.lemmas.append(state)
@@ -217,7 +219,7 @@ def read_lemma(follower: Follower, lines: Any, at: int, may_widen: bool) -> Lemm
         if axis in cover.declared:
             head.append(f"real {checker.end_text(it[0])} {checker.end_text(it[1])}")
         else:
-            head.append("bool both" if len(it) == 2 else f"bool {'true' if it[0] else 'false'}")
+            head.append(f"bool {WORDS[it]}")
     for word, mark in (("yes", True), ("no", False)):
         head.append(" ".join([word, *(str(atom) for atom in sorted(marks) if marks[atom] is mark)]))
     return Lemma(head, found.tree)
@@ -231,7 +233,7 @@ def needs_of(lemma: Any, root: Any, declared: Any) -> Iterator[Need]:
                 yield "low", axis
             if root[axis][1] > it[1]:
                 yield "high", axis
-        elif len(it) == 1:
+        elif it != checker.DOMAINS["both"]:
             yield "bool", axis
     for atom in lemma.marks:
         yield "mark", atom
@@ -279,7 +281,7 @@ def trim(script: bytes, certificate: bytes) -> bytes:
     lower = None
     if version == 4:
         [lower] = lines.header("lower")[1]
-        lower = -checker.inf if lower is None else lower
+        lower = -checker.INFINITE if lower is None else lower
     word, values = lines.header("cover", "goal" if version == 4 else "point")
     of_cover = problem
     if word == "goal":
