@@ -15,7 +15,7 @@ from fractions import Fraction
 from typing import Callable, Dict, Iterator, List, Optional, Sequence, Tuple, Union
 
 from .convert import level_count, name_in, precision_bits, sort_in
-from .cores import shrunk
+from .cores import core_of, shrunk, used_by
 from .ranges import bound_texts, implied_bounds, roots_may_fail
 from .smtlib import Code, ConversionError, Declared, Defined, Group, Reader, Scope, Token, Tree, Writer, fault, is_word, label_of, number_of, plain
 from .solver import DeltaSat, DpolyError, OutOfTime, ProgramError, Programs, ScriptError, Unknown, Unsat, find_programs, printable, solve_script
@@ -76,11 +76,13 @@ class Options:
 
 @dataclass
 class Outcome:
-    """What the last check found: `said` is sat, unsat or unknown, `reason` tells of unknown why, `point` is the model."""
+    """What the last check found: `said` is sat, unsat or unknown, `reason` tells of unknown why, `point` is the model, `proof`
+    what `dpoly` answered where it is unsat."""
 
     said: str
     reason: str = ""
     point: Optional[Dict[str, Union[Fraction, bool]]] = None
+    proof: Optional[Unsat] = None
     assumed: Tuple[Assertion, ...] = ()
     splits: Optional[int] = None
     seconds: float = 0.0
@@ -276,7 +278,7 @@ class Session:
         if isinstance(answer, Unsat):
             if roots_may_fail([it.graph for it in asked]):
                 return Outcome("unknown", "incomplete: no point has all arguments of square roots at 0 or above; assert bounds that keep them there")
-            return Outcome("unsat")
+            return Outcome("unsat", proof=answer)
         if isinstance(answer, Unknown):
             told = f"budget: {answer.budget} boxes were split, {answer.open_boxes} are open" if answer.cause == "budget" else "width: a box of the least width is not decided"
             return Outcome("unknown", told)
@@ -361,10 +363,29 @@ class Session:
         return f"({' '.join(it.source for it in found)})"
 
     def shrunk(self, wanted: List[Assertion], kept: Sequence[Assertion]) -> List[Assertion]:
+        """A part of the assertions `wanted` that has no point together with those that are kept: what the cover of the last check
+        uses, if that is confirmed, and of these what cannot be left out."""
         def is_unsat(some: Sequence[Assertion], seconds: float) -> bool:
             return self.answered([*kept, *some], seconds).said == "unsat"
 
-        return shrunk(wanted, is_unsat, self.options.core_seconds)
+        begin, seconds = time.monotonic(), self.options.core_seconds
+        fewer = self.used(wanted, seconds / 2)
+        if len(fewer) < len(wanted) and is_unsat(fewer, seconds):
+            wanted = fewer
+        return shrunk(wanted, is_unsat, begin + seconds - time.monotonic())
+
+    def used(self, wanted: List[Assertion], seconds: float) -> List[Assertion]:
+        """Those of the assertions that the cover of the last check uses, all of them where that is not known."""
+        outcome = self.last("unsat")
+        if not wanted or outcome.proof is None or outcome.proof.question is None:
+            return wanted
+        question, asked = outcome.proof.question, [*self.assertions, *outcome.assumed]
+        used = used_by(question.script, outcome.proof.certificate, question.bound, seconds)
+        if used is None:
+            return wanted
+        kept = {at for at, it in enumerate(asked) if not any(it is other for other in wanted)}
+        found = core_of(used, [it.graph for it in asked], kept)
+        return [it for at, it in enumerate(asked) if at in found - kept]
 
     def asserted(self, tree: Group) -> Answered:
         return "\n".join(["(" + (self.assertions[0].source if self.assertions else ""), *(" " + it.source for it in self.assertions[1:])]) + ")"

@@ -11,6 +11,7 @@ from __future__ import annotations
 
 import os
 import sys
+import time
 from typing import Any, Dict, FrozenSet, Iterator, List, NamedTuple, Optional, Sequence, Set, Tuple
 
 from .plain import checker  # isort: skip
@@ -18,7 +19,8 @@ from dpoly_intervals import UNIT  # noqa: E402
 from dpoly_script import ScriptFault  # noqa: E402
 
 WORDS = {domain: word for word, domain in checker.DOMAINS.items()}
-# What a line may need: ("low" or "high", axis), ("bool", axis) or ("mark", atom).
+# What a line may need: ("low" or "high", axis), ("bool", axis), ("mark", atom), or ("conjunct", form)
+# of the script's form, which no line gives.
 Need = Tuple[str, int]
 
 
@@ -45,8 +47,8 @@ class Trimmed(NamedTuple):
 class Follower:
     """Follows the trees of a cover and says of each line what it reads and gives."""
 
-    def __init__(self, cover: Any):
-        self.cover, self.problem = cover, cover.problem
+    def __init__(self, cover: Any, end: Optional[float] = None):
+        self.cover, self.problem, self.end = cover, cover.problem, end
         self.lemma_needs: List[FrozenSet[Need]] = []
         self.axes_of: Dict[int, FrozenSet[int]] = {}
 
@@ -69,7 +71,16 @@ class Follower:
         return found
 
     def reason(self, state: Any) -> Optional[Set[Need]]:
-        """A small set of what makes the form false at a state; None where it may be true."""
+        """A small set of what makes the form false at a state, with the conjunct that is false; None where it may be true."""
+        found = self.reasons(state)
+        false = [it for it in self.cover.form.conjuncts if found[it] is not None]
+        if not false:
+            return None
+        conjunct = min(false, key=lambda it: len(found[it]))  # type: ignore[arg-type]
+        return {*found[conjunct], ("conjunct", conjunct)}  # type: ignore[misc]
+
+    def reasons(self, state: Any) -> List[Optional[Set[Need]]]:
+        """The same of each form, without conjuncts."""
         found: List[Optional[Set[Need]]] = []
         for kind, *parts in self.problem.forms:
             if kind == "atom":
@@ -88,7 +99,7 @@ class Follower:
                     found.append(min(false, key=len) if false else None)
                 else:
                     found.append(None if None in below else set().union(*below))  # type: ignore[arg-type]
-        return found[-1]
+        return found
 
     @staticmethod
     def moved(before: Any, after: Any) -> FrozenSet[Need]:
@@ -105,7 +116,7 @@ class Follower:
         none: FrozenSet[Need] = frozenset()
         first = numbers[0] if numbers else 0
         if main and self.problem.empty:
-            return Line(text, 0, (), none), []
+            return Line(text, 0, (), frozenset({("low", first), ("high", first)})), []
         if word in ("false", "unit"):
             why = self.reason(state.marked(first, False) if word == "unit" else state)
             if why is None or word == "unit" and state.marks.get(first) is not None:
@@ -142,6 +153,8 @@ class Follower:
         while waiting:
             state = waiting.pop()
             word, numbers = lines.take() or (None, [])
+            if self.end is not None and time.monotonic() > self.end:
+                raise Untrimmed("the time is over")
             if word not in checker.RULES:
                 raise Untrimmed(f"line {lines.number}: a line of a tree is missing")
             text = lines.lines[lines.number - 1].decode("ascii")
@@ -213,7 +226,8 @@ def read_lemma(follower: Follower, lines: Any, at: int, may_widen: bool) -> Lemm
         marks = {atom: mark for atom, mark in marks.items() if ("mark", atom) in found.needs}
     state = checker.State(tuple(space), marks)
     cover.lemmas.append(state)
-    follower.lemma_needs.append(frozenset(needs_of(state, root, cover.declared)))
+    conjuncts = {it for it in found.needs if it[0] == "conjunct"}
+    follower.lemma_needs.append(frozenset(needs_of(state, root, cover.declared)) | conjuncts)
     head = []
     for axis, it in enumerate(space):
         if axis in cover.declared:
@@ -248,13 +262,20 @@ def renumbered(text: str, numbers: Dict[int, int]) -> str:
     return " ".join([word, *rest[:-1], str(numbers[int(rest[-1])])]) if word in ("by", "ban") else text
 
 
-def trim_cover(cover: Any, lines: Any, count: int) -> List[str]:
-    """The lines of a cover from `cover K` to `end`, trimmed."""
-    follower = Follower(cover)
+def read_trimmed(cover: Any, lines: Any, count: int, end: Optional[float] = None) -> Tuple[List[Lemma], Trimmed]:
+    """The lemmas of a cover and its main tree, trimmed. Raises `Untrimmed` after `end`, a time of the monotonic clock."""
+    follower = Follower(cover, end)
     lemmas = [read_lemma(follower, lines, at, True) for at in range(count)]
     lines.due("tree", 0)
-    main = list(texts_of(trimmed(list(follower.tree(lines, cover.root(), True))).tree))
+    main = trimmed(list(follower.tree(lines, cover.root(), True)))
     lines.due("end", 0)
+    return lemmas, main
+
+
+def trim_cover(cover: Any, lines: Any, count: int) -> List[str]:
+    """The lines of a cover from `cover K` to `end`, trimmed."""
+    lemmas, whole = read_trimmed(cover, lines, count)
+    main = list(texts_of(whole.tree))
     trees = [list(texts_of(it.tree)) for it in lemmas]
     used, waiting = set(), cited_by(main)
     while waiting:
