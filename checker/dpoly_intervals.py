@@ -4,8 +4,8 @@ An end is a whole number of units of 2^-120, as every number of the grid is. An 
 number so great that every operation below answers what docs/FORMATS.md asks of an infinity: it
 times 0 is 0, it times any other end and any sum with it is beyond the grid, and what is beyond the
 grid is rounded to an infinity. An interval is a pair of a lower and an upper end; None is the
-empty one. Most of the time of a check goes by in `plus`, `less`, `times` and `square`, so rounding
-is written out in them.
+empty one. Most of the time of a check goes by in `plus` and `times`, so rounding, which is that of
+`down` and `up`, is written out in them.
 """
 from __future__ import annotations
 
@@ -79,8 +79,8 @@ def minus(a: Interval) -> Interval:
     return -a[1], -a[0]
 
 
-def outward(low: End, high: End) -> Interval:
-    """Two ends, each a whole number of units, rounded outward."""
+def plus(a: Interval, b: Interval) -> Interval:
+    low, high = a[0] + b[0], a[1] + b[1]
     shift = low.bit_length() - MANTISSA
     if shift > 0:
         low = low >> shift << shift
@@ -94,16 +94,36 @@ def outward(low: End, high: End) -> Interval:
     return low, high
 
 
-def plus(a: Interval, b: Interval) -> Interval:
-    return outward(a[0] + b[0], a[1] + b[1])
-
-
 def less(a: Interval, b: Interval) -> Interval:
-    return outward(a[0] - b[1], a[1] - b[0])
+    return plus(a, (-b[1], -b[0]))
 
 
-def outward_product(low: int, high: int) -> Interval:
-    """Two products of ends, each a whole number of 2^-120 units, as units rounded outward."""
+def times(a: Interval, b: Interval) -> Interval:
+    """The product, by the signs of the ends (Moore 1966); a product of two ends is a whole number
+    of 2^-120 units."""
+    a_low, a_high = a
+    b_low, b_high = b
+    if a_low >= 0:
+        if b_low >= 0:
+            low, high = a_low * b_low, a_high * b_high
+        elif b_high <= 0:
+            low, high = a_high * b_low, a_low * b_high
+        else:
+            low, high = a_high * b_low, a_high * b_high
+    elif a_high <= 0:
+        if b_low >= 0:
+            low, high = a_low * b_high, a_high * b_low
+        elif b_high <= 0:
+            low, high = a_high * b_high, a_low * b_low
+        else:
+            low, high = a_low * b_high, a_low * b_low
+    elif b_low >= 0:
+        low, high = a_low * b_high, a_high * b_high
+    elif b_high <= 0:
+        low, high = a_high * b_low, a_low * b_low
+    else:
+        low = min(a_low * b_high, a_high * b_low)
+        high = max(a_low * b_low, a_high * b_high)
     shift = low.bit_length() - PRODUCT
     if shift > 0:
         low = low >> shift + 120 << shift
@@ -121,35 +141,11 @@ def outward_product(low: int, high: int) -> Interval:
     return low, high
 
 
-def times(a: Interval, b: Interval) -> Interval:
-    """The product, by the signs of the ends (Moore 1966)."""
-    a_low, a_high = a
-    b_low, b_high = b
-    if a_low >= 0:
-        if b_low >= 0:
-            return outward_product(a_low * b_low, a_high * b_high)
-        if b_high <= 0:
-            return outward_product(a_high * b_low, a_low * b_high)
-        return outward_product(a_high * b_low, a_high * b_high)
-    if a_high <= 0:
-        if b_low >= 0:
-            return outward_product(a_low * b_high, a_high * b_low)
-        if b_high <= 0:
-            return outward_product(a_high * b_high, a_low * b_low)
-        return outward_product(a_low * b_high, a_low * b_low)
-    if b_low >= 0:
-        return outward_product(a_low * b_high, a_high * b_high)
-    if b_high <= 0:
-        return outward_product(a_high * b_low, a_low * b_low)
-    return outward_product(min(a_low * b_high, a_high * b_low),
-                           max(a_low * b_low, a_high * b_high))
-
-
 def square(a: Interval) -> Interval:
     low, high = a
     if low < 0:
         low, high = (0, max(-low, high)) if high >= 0 else (-high, -low)
-    return outward_product(low * low, high * high)
+    return times((low, high), (low, high))
 
 
 # ---------------------------------------------------------------- Inverse operations

@@ -10,8 +10,8 @@ from __future__ import annotations
 
 from typing import Callable, Dict, List, NamedTuple, Optional, Sequence, Tuple
 
-from dpoly_intervals import (LINE, NOUGHT, End, Interval, down, factor, less, meet, minus, plus,
-                             root, root_within, rounded, square, times)
+from dpoly_intervals import (LINE, NOUGHT, UNIT, End, Interval, down, factor, less, meet, minus,
+                             plus, root, root_within, rounded, square, times)
 from dpoly_script import Terms
 
 # Of a Real axis its interval, of a Bool axis the least and the greatest truth value.
@@ -22,6 +22,8 @@ Narrowed = Dict[int, Interval]
 # A subterm, its kind and its parts: operands, of a variable its axis; the second one may be None.
 Step = Tuple[int, str, int, Optional[int]]
 
+ONE: Interval = (UNIT, UNIT)
+MOST_KNOWN_ABOVE = 4000000  # subterms in the lists of those above axes, about 32 MB
 UNARY: Dict[str, Callable[[Interval], Interval]] = {'minus': minus, 'square': square}
 BINARY: Dict[str, Callable[[Interval, Interval], Interval]] = {'plus': plus, 'times': times}
 
@@ -42,6 +44,8 @@ class Graph:
                 for it in set(parts):
                     self.parents[it].append(number)
         self.known: Dict[int, List[Step]] = {}
+        self.known_above: Dict[int, List[int]] = {}
+        self.room = MOST_KNOWN_ABOVE
 
     def step(self, number: int) -> Step:
         kind, *parts = self.terms.parts[number]
@@ -63,9 +67,25 @@ class Graph:
         return sorted(set().union(*map(self.steps, terms)), reverse=True)
 
 
+    def above(self, axis: int) -> List[int]:
+        """The subterms above an axis, without its variable."""
+        found = self.known_above.get(axis)
+        if found is None:
+            waiting, seen = [self.variables[axis]], set()
+            while waiting:
+                new = set(self.parents[waiting.pop()]) - seen
+                seen |= new
+                waiting.extend(new)
+            found = sorted(seen)
+            if len(found) <= self.room:
+                self.room -= len(found)
+                self.known_above[axis] = found
+        return found
+
+
 class Rows:
     """The enclosures of the subterms over a space. A subterm is stale where an axis below it has
-    changed since it was enclosed; then all that stands above it is stale too."""
+    changed since it was enclosed. Where one is not, nothing below it is."""
     def __init__(self, graph: Graph):
         self.graph, self.space = graph, None
         count = len(graph.terms.parts)
@@ -84,17 +104,12 @@ class Rows:
 
     def set_axis(self, axis: int, interval: Interval) -> None:
         """Changes the space at one axis."""
-        variable, stale, parents = self.graph.variables[axis], self.stale, self.graph.parents
+        variable, stale = self.graph.variables[axis], self.stale
         self.space = None
-        if self.row[variable] == interval:
-            return
-        self.row[variable] = interval
-        waiting = [variable]
-        while waiting:
-            for it in parents[waiting.pop()]:
-                if not stale[it]:
-                    stale[it] = True
-                    waiting.append(it)
+        if self.row[variable] != interval:
+            self.row[variable] = interval
+            for it in self.graph.above(axis):
+                stale[it] = True
 
     def enclosure(self, term: int) -> Interval:
         """The enclosure of a term; none below it is stale then."""
@@ -232,7 +247,7 @@ class Combiner:
                 continue
             if kind == 'times' and a not in self.exact and b not in self.exact:
                 product = times(less(enclosed[a], center[a]), less(enclosed[b], center[b]))
-                rest = plus(rest, times(w, product))
+                rest = plus(rest, scaled(w, product))
             if kind == 'square':
                 quadratic.give(a, w)
             self.hand_down(linear, w, kind, a, b)
@@ -255,13 +270,18 @@ class Combiner:
         if kind == 'minus':
             linear.give(a, minus(w))
         elif kind == 'square':
-            amount = times(w, center[a])
+            amount = scaled(w, center[a])
             linear.give(a, amount)
             linear.give(a, amount)
         else:
             for it, other in ((a, b), (b, a)):
                 if it not in constants:
-                    linear.give(it, w if kind == 'plus' else times(w, center[other]))
+                    linear.give(it, w if kind == 'plus' else scaled(w, center[other]))
+
+
+def scaled(w: Interval, a: Interval) -> Interval:
+    """`w * a`; w is 1 as long as sums alone lie between a subterm and its atom."""
+    return a if w == ONE else times(w, a)
 
 
 def bends(k: Optional[Interval]) -> bool:
