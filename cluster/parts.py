@@ -16,10 +16,39 @@ import stat
 import subprocess
 import sys
 import time
+from dataclasses import asdict, dataclass, field
+from typing import List, Optional
 
 # So many bytes a certificate has at most, and each other file: what is known of a result, a task, a driver's name.
 MOST_OF_CERTIFICATE, MOST_KNOWN = 1 << 32, 1 << 26
 BRANCHES, STEPS, LEAVING = {b'cut', b'flip', b'case'}, {b'pull', b'push', b'comb', b'unit', b'ban'}, {b'open', b'stuck'}
+
+
+@dataclass
+class Known:
+    """What is known of a result: whether it is a point, the numbers of its parts, how many lines are open in what it leaves to
+    do, how many branches that has, how many splits were made for it, and in how many seconds, 0 where that is not known."""
+
+    is_point: bool
+    parts: List[int] = field(default_factory=list)
+    open: int = 0
+    branches: int = 0
+    splits: int = 0
+    seconds: float = 0
+
+
+@dataclass
+class Task:
+    """What a driver asks of its jobs: the program, the driver's name, the options of each part and the seconds that one may
+    take, how many jobs there are, and for how many seconds a job waits between two looks, and for a driver that is silent."""
+
+    program: str
+    driver: str
+    options: List[str]
+    seconds: Optional[int]
+    jobs: int
+    pause: float
+    patience: float
 
 
 def read(name, most):
@@ -66,13 +95,11 @@ def outline(tree, words, own):
 
 
 def told(name):
-    """What is known of a result: the numbers of its parts, and besides how many lines are open in what it leaves to do,
-    how many branches that has, how many splits were made for the result, and in how many seconds, where that is known. An
-    error where the file says something else."""
+    """What is known of a result. An error where the file says something else."""
     known = json.loads(read('open/%s.json' % name, MOST_KNOWN))
     if not is_known(known):
         raise ValueError('open/%s.json is not what is known of a result' % name)
-    return known
+    return Known(**known)
 
 
 def is_count(value):
@@ -83,6 +110,7 @@ def is_known(value):
     """Whether this is what `keep` writes of a result."""
     return (
         isinstance(value, dict)
+        and set(value) == {'is_point', 'parts', 'open', 'branches', 'splits', 'seconds'}
         and type(value.get('is_point')) is bool
         and isinstance(value.get('parts'), list)
         and all(map(is_count, value['parts']))
@@ -96,30 +124,30 @@ def keep(name, there, seconds=0):
     is no whole certificate."""
     lines = read(there, MOST_OF_CERTIFICATE).split(b'\n')
     parent, _, number = name.rpartition('-')
-    known = {'is_point': lines[4] == b'point', 'parts': [], 'open': 0, 'branches': 0, 'splits': 0, 'seconds': seconds}
+    known = Known(lines[4] == b'point', seconds=seconds)
     if lines[-2:] != [b'end', b'']:
         raise ValueError('it is cut off')
-    if not known['is_point']:
+    if not known.is_point:
         top = len(lines) - lines[::-1].index(b'tree')
         tree = lines[top:-2]
         words = [word(line) for line in tree]
         leaving = sum(it in LEAVING for it in words)
-        before = told(parent) if parent else {'open': 1, 'branches': 0}
-        own = range(int(number or 0), leaving - (before['open'] - 1 - int(number or 0)))
+        before = told(parent) if parent else Known(False, open=1)
+        own = range(int(number or 0), leaving - (before.open - 1 - int(number or 0)))
         left = outline(tree, words, own)
         leaves = [line for line in left if line in (b'open', None)]
-        branches = sum(word(line or b'') in BRANCHES for line in left)
-        known.update(parts=[place for place, line in enumerate(leaves) if line], open=len(leaves), branches=branches,
-                     splits=sum(it in BRANCHES for it in words) - before['branches'])
+        known.parts, known.open = [place for place, line in enumerate(leaves) if line], len(leaves)
+        known.branches = sum(word(line or b'') in BRANCHES for line in left)
+        known.splits = sum(it in BRANCHES for it in words) - before.branches
     result = 'done/%s.cert' % name
     if there != result:
         try:
             os.link(there, result)
         except FileExistsError:
             return
-    if not known['is_point']:
+    if not known.is_point:
         write('open/%s.cert' % name, b'\n'.join(lines[:top] + [line or b'open' for line in left] + lines[-2:]))
-    write('open/%s.json' % name, json.dumps(known).encode())
+    write('open/%s.json' % name, json.dumps(asdict(known)).encode())
 
 
 def resume(task, name, budget):
@@ -127,10 +155,10 @@ def resume(task, name, budget):
     parent, _, number = name.rpartition('-')
     there = beside('done/' + name)
     try:
-        share = '%d/%d' % (int(number) + 1, told(parent)['open'])
-        words = [task['program'], 'resume', '--part', share, '--budget', budget, *task['options'], 'script.smt2', 'open/%s.cert' % parent, there]
+        share = '%d/%d' % (int(number) + 1, told(parent).open)
+        words = [task.program, 'resume', '--part', share, '--budget', budget, *task.options, 'script.smt2', 'open/%s.cert' % parent, there]
         begin = time.monotonic()
-        subprocess.run(words, stdin=subprocess.DEVNULL, stdout=subprocess.DEVNULL, timeout=task['seconds'], check=True)
+        subprocess.run(words, stdin=subprocess.DEVNULL, stdout=subprocess.DEVNULL, timeout=task.seconds, check=True)
         keep(name, there, time.monotonic() - begin)
     except (OSError, subprocess.SubprocessError, ValueError, IndexError) as error:
         print('dpoly-cluster: part %s: %s' % (name, error), file=sys.stderr)
@@ -167,25 +195,25 @@ class Presence:
         """Whether it is at work. How long ago the file was touched is told by the clock of this machine alone."""
         try:
             touched = os.stat('driver').st_mtime_ns
-            if read('driver', MOST_KNOWN) != self.task['driver'].encode():
+            if read('driver', MOST_KNOWN) != self.task.driver.encode():
                 return False
         except FileNotFoundError:
             # the work is done, and its folder gone
             return False
         if touched != self.touched:
             self.touched, self.seen = touched, time.monotonic()
-        return time.monotonic() < self.seen + self.task['patience']
+        return time.monotonic() < self.seen + self.task.patience
 
 
 def main(folder, number):
-    task = json.loads(read(folder + '/task', MOST_KNOWN))
+    task = Task(**json.loads(read(folder + '/task', MOST_KNOWN)))
     os.chdir(os.path.dirname(os.path.dirname(folder)))
     driver, pause = Presence(task), 0.02
     while driver.is_there():
-        part = taken(folder, number, task['jobs'])
+        part = taken(folder, number, task.jobs)
         if part is None:
             time.sleep(pause)
-            pause = min(1.5 * pause, task['pause'])
+            pause = min(1.5 * pause, task.pause)
             continue
         name, budget, there = part
         result = 'done/%s.cert' % name
@@ -196,7 +224,7 @@ def main(folder, number):
         pause = 0.02
         if not os.path.exists(result):
             # where the fault is this machine's, others get the part
-            time.sleep(5 * task['pause'])
+            time.sleep(5 * task.pause)
 
 
 if __name__ == '__main__':
