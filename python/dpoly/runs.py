@@ -225,7 +225,7 @@ def needed_of(assumptions: Sequence[Proposition], *formulas: object, seconds: fl
 def plan(
     *formulas: object, margin_bits: Bits = None, delta_bits: Bits = None, bound: Optional[int] = None, seconds: Optional[float] = None, programs: Optional[Programs] = None
 ) -> Plan:
-    """A least width with which no search of these formulas ends by the width (`docs/USING.md`, "Choosing the least width")."""
+    """A least width with which no search of these formulas ends by the width (`docs/ANSWERS.md`, "Choosing the least width")."""
     return plan_script(script_of(*formulas), margin_bits=margin_bits, delta_bits=delta_bits, bound=bound, seconds=seconds, programs=programs)
 
 
