@@ -622,9 +622,8 @@ class Problem:
 
     def arithmetic(self, name: str, values: List[Value], at: int) -> Task:
         """A task: the value of an operation on Reals, a tree or a choice."""
-        divisors = [self.terms.constant(it) for it in values[1:]] if name == '/' else []
-        if None in divisors or 0 in divisors:
-            raise ScriptFault('DivisorNotConstant' if None in divisors else 'ZeroDivisor', at)
+        if name == '/' and not all(isinstance(it, int) for it in values[1:]):
+            raise ScriptFault('DivisorNotConstant', at)
 
         def made(*trees: int) -> int:
             return self.terms.operation(name, at, *trees)
@@ -635,6 +634,9 @@ class Problem:
             values = self.terms.powers(values)
         result = values[0]
         for it in values[1:]:
+            if name == '/' and not self.terms.constant(it):
+                is_zero = self.terms.constant(it) == 0
+                raise ScriptFault('ZeroDivisor' if is_zero else 'DivisorNotConstant', at)
             result = yield self.apart(made, 'choice', [result, it])
         return result
 
