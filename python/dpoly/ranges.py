@@ -295,23 +295,35 @@ def give(found: Dict[str, Interval], name: str, interval: Interval) -> None:
 def propagated(graphs: Sequence[Graph], names: Sequence[str]) -> Dict[str, Interval]:
     """The ranges of Real constants that follow from all of the expressions. Raises `Empty` where nothing is left."""
     constants = {it: WHOLE for it in names}
+    propagate(graphs, constants)
+    return constants
+
+
+def propagate(graphs: Sequence[Graph], constants: Dict[str, Interval]) -> None:
+    """Narrows the ranges of constants by all of the expressions. Raises `Empty` where nothing is left; the ranges follow then too."""
     for _ in range(ROUNDS):
         before = dict(constants)
         for graph in graphs:
             backward(graph, forward(graph, constants), constants)
         if constants == before:
             break
-    return constants
 
 
 def implied_bounds(graphs: Sequence[Graph], names: Sequence[str]) -> Dict[str, Interval]:
     """The bounds that follow from the expressions for constants for which these state none, on the sides where they state none;
     outward, to multiples of 2^-20. Those that the program would not take are left out."""
+    found = {it: WHOLE for it in names}
     try:
         stated = asserted_bounds(graphs)
         missing = [it for it in names if None in stated.get(it, WHOLE)]
-        found = propagated(graphs, names) if missing else {}
     except (Empty, TooDear):
+        return {}
+    try:
+        if missing:
+            propagate(graphs, found)
+    except Empty:
+        pass  # what was found before the contradiction are bounds all the same
+    except TooDear:
         return {}
     result: Dict[str, Interval] = {}
     for name in missing:
