@@ -54,12 +54,17 @@ class Task:
 def read(name, most):
     """The bytes of a plain file, so many at most. Another one is an error: any file of the work folder may be a link."""
     with open(name, 'rb', opener=lambda path, flags: os.open(path, flags | os.O_NONBLOCK)) as file:
-        if not stat.S_ISREG(os.fstat(file.fileno()).st_mode):
-            raise ValueError('%s is no plain file' % name)
+        check_plain(name, os.fstat(file.fileno()))
         data = file.read(most + 1)
     if len(data) > most:
         raise ValueError('%s is too long' % name)
     return data
+
+
+def check_plain(name, status):
+    """Raises an error where the status of a file is not that of a plain one."""
+    if not stat.S_ISREG(status.st_mode):
+        raise ValueError('%s is no plain file' % name)
 
 
 def write(name, data):

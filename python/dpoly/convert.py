@@ -8,7 +8,7 @@ from typing import Callable, Dict, List, Optional, Sequence, Tuple
 
 from .approx import ERROR, FUNCTIONS, choice_of_pieces, enclosed
 from .approx import FINEST as FINEST_ERROR
-from .ranges import WHOLE, Empty, Interval, bound_texts, forward, implied_bounds, propagated
+from .ranges import WHOLE, Interval, bound_texts, forward, implied_bounds, propagated
 from .script import text_of
 from .smtlib import SORTS, Code, ConversionError, Declared, Defined, Functions, Group, Scope, Token, Tree, Writer, fault, is_word, label_of, number_of, plain, trees
 from .terms import Operation, spelled
@@ -126,7 +126,7 @@ def bounds_of_whole(text: str) -> Dict[str, Interval]:
     scout.whole()
     try:
         return propagated([it for it in scout.asserted if it is not None], scout.reals())
-    except (Empty, TooDear):
+    except TooDear:
         return {}
 
 

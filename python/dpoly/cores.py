@@ -5,12 +5,10 @@ import time
 from fractions import Fraction
 from typing import Callable, Dict, List, NamedTuple, Optional, Sequence, Set, Tuple, TypeVar
 
-from .ranges import Empty, asserted_bounds
-from .values import Graph, TooDear
+from .ranges import Side, stated_bounds
+from .values import Graph
 
 Item = TypeVar("Item")
-# The lower (0) or upper (1) bound of a Real constant.
-Side = Tuple[int, str]
 
 
 def shrunk(items: Sequence[Item], is_unsat: Callable[[Sequence[Item], float], bool], seconds: float) -> List[Item]:
@@ -79,15 +77,6 @@ def assertions_with(forms: Sequence[Tuple], conjunct: int) -> Set[int]:
                 seen.add(it)
                 waiting += forms[it][1]
     return found
-
-
-def stated_bounds(graph: Graph) -> Dict[Side, Fraction]:
-    """The bounds that an assertion states."""
-    try:
-        found = asserted_bounds([graph])
-    except (Empty, TooDear):
-        return {}
-    return {(side, name): end for name, ends in found.items() for side, end in enumerate(ends) if end is not None}
 
 
 def core_of(used: Used, graphs: Sequence[Graph], kept: Set[int]) -> Set[int]:

@@ -12,7 +12,7 @@ import sys
 import time
 from dataclasses import dataclass, field
 from fractions import Fraction
-from typing import Callable, Dict, Iterator, List, Optional, Sequence, Tuple, Union
+from typing import Callable, Dict, Iterator, List, Optional, Sequence, Set, Tuple, Union
 
 from .convert import level_count, name_in, precision_bits, sort_in
 from .cores import core_of, shrunk, used_by
@@ -34,10 +34,12 @@ class Refusal(Exception):
 
 @dataclass(frozen=True)
 class Assertion:
-    """An assertion or assumption: as it was written, in the program's language, and for evaluation."""
+    """An assertion or assumption: as it was written, in the program's language, and for evaluation, as code and as what that
+    unfolds to."""
 
     source: str
     text: str
+    code: Code
     graph: Graph
     label: Optional[str] = None
 
@@ -48,7 +50,6 @@ class Command:
 
     name: str
     text: str
-    code: Optional[Code] = None
 
 
 @dataclass
@@ -196,7 +197,7 @@ class Session:
 
     def add_definition(self, found: Defined, text: str, tree: Tree) -> None:
         self.scope.add(found, tree)
-        self.commands.append(Command(found.name, text, found.code))
+        self.commands.append(Command(found.name, text))
 
     def assertion(self, tree: Group) -> Answered:
         term, label = label_of(tree.items[1])
@@ -205,7 +206,7 @@ class Session:
         if label is not None:
             name = name_in(label)
             self.add_definition(Defined(name, "Bool", (), written.code), f"(define-fun {label.text} () Bool {written.text})", label)
-        self.assertions.append(Assertion(plain(tree.items[1]), written.text, graph, label.text if label else None))
+        self.assertions.append(Assertion(plain(tree.items[1]), written.text, written.code, graph, label.text if label else None))
         return self.changed()
 
     def changed(self) -> Answered:
@@ -246,7 +247,7 @@ class Session:
                 raise fault("the assumptions are a list", listed)
             for it in listed.items:
                 written = self.writer.write(it, "Bool")
-                assumed.append(Assertion(plain(it), written.text, Graph(written.code)))
+                assumed.append(Assertion(plain(it), written.text, written.code, Graph(written.code)))
         self.outcome = self.ask(assumed)
         return self.outcome.said
 
@@ -298,13 +299,10 @@ class Session:
         return {it.name: Fraction(0) if it.sort == "Real" else False for it in constants}
 
     def script(self, asked: Sequence[Assertion]) -> str:
-        """The script of a check. Constants that the assertions do not use are left out; bounds that follow from the assertions are
-        stated where these state none."""
-        used = {name for it in asked for name in it.graph.constants()}
-        lines = ["(set-logic QF_NRA)"]
-        for it in self.commands:
-            if it.name in used or it.code is not None:
-                lines.append(it.text)
+        """The script of a check. Constants and definitions that the assertions do not use are left out; bounds that follow from the
+        assertions are stated where these state none."""
+        used = names_in([it.code for it in asked])
+        lines = ["(set-logic QF_NRA)", *(it.text for it in self.commands if it.name in used)]
         reals = [it.name for it in self.scope.names.values() if isinstance(it, Declared) and it.sort == "Real" and it.name in used]
         implied = implied_bounds([it.graph for it in asked], reals)
         lines += [line for name, bounds in implied.items() for line in bound_texts(spelled(name), bounds)]
@@ -448,6 +446,20 @@ COMMANDS: Dict[str, Tuple[Tuple[int, ...], Callable[[Session, Group], Answered]]
     "get-option": ((1,), Session.option),
     "echo": ((1,), Session.echo),
 }
+
+
+def names_in(codes: Sequence[Code]) -> Set[str]:
+    """The constants and definitions that expressions name, and those that the definitions name."""
+    found: Set[str] = set()
+    waiting = list(codes)
+    while waiting:
+        for word, *rest in waiting.pop().instructions:
+            if word == "constant":
+                found.add(rest[0])  # type: ignore[arg-type]
+            elif word == "call" and rest[0].name not in found:  # type: ignore[attr-defined]
+                found.add(rest[0].name)  # type: ignore[attr-defined]
+                waiting.append(rest[0].code)  # type: ignore[attr-defined]
+    return found
 
 
 def quoted(text: str) -> str:

@@ -4,7 +4,7 @@ from __future__ import annotations
 
 from fractions import Fraction
 from math import isqrt
-from typing import Callable, Dict, Iterator, List, Optional, Sequence, Tuple
+from typing import Callable, Dict, Iterator, List, Optional, Sequence, Set, Tuple
 
 from .terms import Constant
 from .values import Graph, TooDear
@@ -17,6 +17,8 @@ GRID = 2**20
 """Bounds that are written are multiples of 1/GRID, as far as they go."""
 MOST_BOUND = 2**32
 ROUNDS = 12
+Side = Tuple[int, str]
+"""The lower (0) or upper (1) bound of a constant."""
 
 
 class Empty(Exception):
@@ -288,46 +290,47 @@ def asserted_bounds(graphs: Sequence[Graph]) -> Dict[str, Interval]:
     return found
 
 
+def stated_bounds(graph: Graph) -> Dict[Side, Fraction]:
+    """The bounds that one assertion states; none where they cross."""
+    try:
+        found = asserted_bounds([graph])
+    except (Empty, TooDear):
+        return {}
+    return {(side, name): end for name, ends in found.items() for side, end in enumerate(ends) if end is not None}
+
+
 def give(found: Dict[str, Interval], name: str, interval: Interval) -> None:
     found[name] = meet(found.get(name, WHOLE), interval)
 
 
 def propagated(graphs: Sequence[Graph], names: Sequence[str]) -> Dict[str, Interval]:
-    """The ranges of Real constants that follow from all of the expressions. Raises `Empty` where nothing is left."""
+    """The ranges of Real constants that follow from all of the expressions; where nothing is left, those that were found until
+    then."""
     constants = {it: WHOLE for it in names}
-    propagate(graphs, constants)
-    return constants
-
-
-def propagate(graphs: Sequence[Graph], constants: Dict[str, Interval]) -> None:
-    """Narrows the ranges of constants by all of the expressions. Raises `Empty` where nothing is left; the ranges follow then too."""
     for _ in range(ROUNDS):
         before = dict(constants)
-        for graph in graphs:
-            backward(graph, forward(graph, constants), constants)
+        try:
+            for graph in graphs:
+                backward(graph, forward(graph, constants), constants)
+        except Empty:
+            break
         if constants == before:
             break
+    return constants
 
 
 def implied_bounds(graphs: Sequence[Graph], names: Sequence[str]) -> Dict[str, Interval]:
     """The bounds that follow from the expressions for constants for which these state none, on the sides where they state none;
     outward, to multiples of 2^-20. Those that the program would not take are left out."""
-    found = {it: WHOLE for it in names}
+    stated: Set[Side] = set().union(*map(stated_bounds, graphs))
+    missing = [it for it in names if not {(0, it), (1, it)} <= stated]
     try:
-        stated = asserted_bounds(graphs)
-        missing = [it for it in names if None in stated.get(it, WHOLE)]
-    except (Empty, TooDear):
-        return {}
-    try:
-        if missing:
-            propagate(graphs, found)
-    except Empty:
-        pass  # what was found before the contradiction are bounds all the same
+        found = propagated(graphs, names) if missing else {}
     except TooDear:
         return {}
     result: Dict[str, Interval] = {}
     for name in missing:
-        low, high = (end if known is None else None for end, known in zip(found[name], stated.get(name, WHOLE)))
+        low, high = (None if (side, name) in stated else end for side, end in enumerate(found[name]))
         low = None if low is None or abs(low) > MOST_BOUND - 1 else Fraction(low.numerator * GRID // low.denominator, GRID)
         high = None if high is None or abs(high) > MOST_BOUND - 1 else -Fraction(-high.numerator * GRID // high.denominator, GRID)
         if low is not None or high is not None:

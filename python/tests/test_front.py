@@ -140,6 +140,22 @@ class Sessions(unittest.TestCase):
         )
         client.end()
 
+    def test_bounds_that_follow_cross(self):
+        """No assertion bounds y, and what follows of it leaves nothing."""
+        client = self.client("--core-seconds", "300")
+        client.send("(declare-const x Real)(declare-const y Real)(assert (! (<= 0 x 2) :named range))(assert (! (= y (* x x)) :named square))")
+        self.talk(client, ("(push)(assert (! (>= y 5) :named high))(check-sat)", "unsat"), ("(get-unsat-core)", "(range square high)"))
+        client.end()
+
+    def test_a_core_without_a_constant(self):
+        """The bounds of a constant that the core does not use are left out with it, and so is what is named beside them."""
+        client = self.client("--core-seconds", "300")
+        client.send("(declare-const x Real)(declare-const y Real)(declare-const z Real)(assert (! (<= 0 x 2) :named rx))")
+        client.send("(assert (! (<= 0 y 10) :named ry))(assert (! (<= 0 z 10) :named rz))(assert (! (= y (* x x)) :named square))")
+        client.send("(assert (! (<= (+ y z) 12) :named sum))(assert (! (>= y 5) :named high))(assert (! (or rz (>= z 3)) :named either))")
+        self.talk(client, ("(check-sat)", "unsat"), ("(get-unsat-core)", "(rx square high)"))
+        client.end()
+
     def test_values_are_exact(self):
         client = self.client()
         client.send("(declare-const x Real)(declare-const y Real)(declare-const free Real)(declare-const p Bool)(define-fun twice ((a Real)) Real (* 2 a))")
