@@ -3,7 +3,6 @@ ghost use Rattle.clause_search.specs.Trail.{IsTrailOf};
 
 use crate::problems::{Form, clauses_of};
 use clause_search::{Cnf, Literal, Variable, *};
-use poly_graph::{Lits, Mark};
 use std::alloc::Global;
 use std::test::Fail;
 
@@ -34,21 +33,6 @@ fn run(cnf: &Cnf, trail: &mut Trail) -> Option<(u32, Prop)>
     None
 }
 
-// Adds the nogood that atom 4 is marked yes; whether that could be done.
-fn forbid(alloc: Global, cnf: &Cnf, trail: &mut Trail) -> bool
-    requires { IsTrailOf cnf.now trail.old }
-    ensures { IsTrailOf cnf.now trail.new }
-{
-    let Ok(mut nogood) = Lits::new(alloc, 5) else {
-        return false;
-    };
-    if nogood.len() != 5 || cnf.atoms() != 5 {
-        return false;
-    }
-    nogood.set(4, Mark::Yes);
-    trail.add_nogood(alloc, &nogood).is_ok()
-}
-
 // ---- trails of one form
 
 // 0 and 1 and (2 or 3) and 4
@@ -65,8 +49,6 @@ const SHAPE: [Form; 7] = [
 // What is asked of a trail, and what it answers.
 enum Step {
     Assume(Variable, bool),
-    // Adds the nogood that atom 4 is marked yes.
-    Forbid,
     Clear,
     // Propagates to the end: which atoms of these bits are forced, and the last answer.
     Run(u32, u32, Prop),
@@ -77,7 +59,7 @@ enum Step {
 }
 
 // Whether the trail answers so.
-fn is_answered(alloc: Global, cnf: &Cnf, trail: &mut Trail, step: &Step) -> bool
+fn is_answered(cnf: &Cnf, trail: &mut Trail, step: &Step) -> bool
     requires { IsTrailOf cnf.now trail.old }
     ensures { IsTrailOf cnf.now trail.new }
 {
@@ -86,7 +68,6 @@ fn is_answered(alloc: Global, cnf: &Cnf, trail: &mut Trail, step: &Step) -> bool
             assume(cnf, trail, *variable, *positive);
             true
         }
-        Step::Forbid => forbid(alloc, cnf, trail),
         Step::Clear => {
             trail.clear();
             true
@@ -101,12 +82,12 @@ fn is_answered(alloc: Global, cnf: &Cnf, trail: &mut Trail, step: &Step) -> bool
 }
 
 // Whether it answers so to each step, one after the other.
-fn are_answered(alloc: Global, cnf: &Cnf, trail: &mut Trail, steps: &[Step]) -> bool
+fn are_answered(cnf: &Cnf, trail: &mut Trail, steps: &[Step]) -> bool
     requires { IsTrailOf cnf.now trail.old }
     ensures { IsTrailOf cnf.now trail.new }
 {
     for step in steps {
-        if !is_answered(alloc, cnf, trail, step) {
+        if !is_answered(cnf, trail, step) {
             return false;
         }
     }
@@ -116,7 +97,7 @@ fn are_answered(alloc: Global, cnf: &Cnf, trail: &mut Trail, steps: &[Step]) -> 
 // The same of a new trail of the clauses.
 fn follows_in(alloc: Global, cnf: &Cnf, steps: &[Step]) -> bool {
     match Trail::new(alloc, cnf) {
-        Ok(mut trail) => are_answered(alloc, cnf, &mut trail, steps),
+        Ok(mut trail) => are_answered(cnf, &mut trail, steps),
         Err(_) => false,
     }
 }
@@ -127,7 +108,7 @@ fn follows(alloc: Global, steps: &[Step]) -> Result<bool, Fail> {
     Ok(follows_in(alloc, &cnf, steps))
 }
 
-const TRAILS: [&[Step]; 4] = [
+const TRAILS: [&[Step]; 3] = [
     // each atom is forced
     &[
         Step::Assume(Variable::Atom(2), false),
@@ -143,19 +124,12 @@ const TRAILS: [&[Step]; 4] = [
         Step::Assume(Variable::Atom(4), false),
         Step::Run(0, 0, Prop::Conflict),
     ],
-    // a nogood, after whose atom was forced
+    // what was assumed is forgotten, and what follows from the form alone is derived again
     &[
-        Step::Forbid,
-        Step::Assume(Variable::Atom(2), false),
-        Step::Run(0b10000, 0b10000, Prop::Conflict),
-    ],
-    // a nogood on the trail, which stays
-    &[
-        Step::Run(0, 0, Prop::Rest),
-        Step::Forbid,
+        Step::Assume(Variable::Atom(4), false),
         Step::Run(0, 0, Prop::Conflict),
         Step::Clear,
-        Step::Run(0, 0, Prop::Conflict),
+        Step::Run(0b11111, 0b10011, Prop::Rest),
     ],
 ];
 
