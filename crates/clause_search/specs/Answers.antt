@@ -1,5 +1,5 @@
 -- What the answers of propagation say.
-use Rattle.std.specs.Prelude.{◌≡◌, ℕ, ◌<◌, List, All, true, not, IsTrue, Contains, Option, Some, None}
+use Rattle.std.specs.Prelude.{◌≡◌, ℕ, List, All, true, not, IsTrue, Contains}
 use Rattle.poly_graph.specs.ProblemViews.{Parts, problem_of}
 use Rattle.cover_model.specs.State.{State, Loosenings, undecided, with_no, may}
 use Rattle.clause_search.specs.declared.literal.Variable.TheVariants.{Atom}
@@ -61,10 +61,3 @@ pub record Grows (t u : Trail) : Type 0 where
   pub still_on : (l : Literal) → IsTrue (stands_on t l) → IsTrue (stands_on u l)
   pub same_failed : u.failed ≡ t.failed
   pub same : SameVariables t u
-
--- ---- choice
-
--- an atom that is undecided, none where there is none
-abbrev pub IsPick : Trail → Option ℕ → Type 0
-IsPick t (Some j) = (j < t.atoms) × IsTrue (undecided_on t (Atom j))
-IsPick t None = (j : ℕ) → j < t.atoms → IsTrue (not (undecided_on t (Atom j)))

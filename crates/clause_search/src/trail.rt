@@ -25,7 +25,6 @@ pub struct Trail {
 
 impl Trail {
     ghost use Rattle.clause_search.specs.Trail.{IsTrailOf, CanAssume, AssumesAlso, SameVariables, IsEmpty, stands_on, undecided_on};
-    ghost use Rattle.clause_search.specs.Answers.{IsPick};
 
     /// An empty trail over these clauses.
     pub fn new(alloc: Global, cnf: &Cnf) -> Result<Self, AllocError>
@@ -97,17 +96,5 @@ impl Trail {
         ensures { result ≡ undecided_on self.now variable }
     {
         self.values.is_open(variable)
-    }
-
-    /// An atom that is undecided, if there is one.
-    pub fn pick(&self) -> Option<u32>
-        ensures { IsPick self.now result }
-    {
-        for j in 0..self.atoms {
-            if self.values.is_open(Variable::Atom(j)) {
-                return Some(j);
-            }
-        }
-        None
     }
 }

@@ -52,8 +52,6 @@ enum Step {
     Clear,
     // Propagates to the end: which atoms of these bits are forced, and the last answer.
     Run(u32, u32, Prop),
-    // Whether there is a variable to pick.
-    Picks(bool),
     // Whether this one is not decided.
     IsOpen(Variable, bool),
 }
@@ -76,7 +74,6 @@ fn is_answered(cnf: &Cnf, trail: &mut Trail, step: &Step) -> bool
             Some((forced, last)) => forced & *of == *wanted && last == *answer,
             None => false,
         },
-        Step::Picks(picks) => trail.pick().is_some() == *picks,
         Step::IsOpen(variable, open) => trail.is_undecided(*variable) == *open,
     }
 }
@@ -113,12 +110,10 @@ const TRAILS: [&[Step]; 3] = [
     &[
         Step::Assume(Variable::Atom(2), false),
         Step::Run(0b11111, 0b11011, Prop::Rest),
-        Step::Picks(false),
     ],
     // one is assumed against what was derived
     &[
         Step::Run(0b11111, 0b10011, Prop::Rest),
-        Step::Picks(true),
         Step::IsOpen(Variable::Atom(2), true),
         Step::IsOpen(Variable::Atom(4), false),
         Step::Assume(Variable::Atom(4), false),
