@@ -17,13 +17,7 @@ fn work(alloc: Global, problem: &Problem) -> Result<Worked, AllocError>
     let space = Space::with_capacity(alloc, 0)?;
     let lits = Lits::new(alloc, 0)?;
     let mut room = Room::new(problem);
-    work_in(
-        alloc,
-        &mut room,
-        &USUAL,
-        State::new(space, lits),
-        &[],
-    )
+    work_in(alloc, &mut room, &USUAL, State::new(space, lits), &[])
 }
 
 // Whether it finds the point of no axes.
