@@ -11,7 +11,6 @@ mod lock;
 mod object;
 mod plays;
 mod seat;
-mod seats;
 mod shared;
 mod views;
 

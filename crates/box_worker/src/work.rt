@@ -30,7 +30,6 @@ use crate::scout::{Emptied, Scout};
 use crate::split::split;
 use crate::worked::Worked;
 use cover_rule::{KeptPatch, Lemma, MiddlePoint, Options, Patch, Point, State};
-use poly_graph::Problem;
 use std::alloc::{AllocError, Global};
 
 // The middle of the state that the patch has reached; none where the form is not sure there.
@@ -273,24 +272,4 @@ pub fn work_in(
     let patch = room.begin(alloc, &margins, state)?;
     let (patch, ended) = come_to_end(alloc, &mut room.heuristics, lemmas, patch)?;
     worked(alloc, room, ended, patch)
-}
-
-/// As `work_in`, in room of its own.
-pub fn work_on(
-    alloc: Global,
-    problem: &Problem,
-    options: &Options,
-    state: State,
-    lemmas: &[Lemma],
-) -> Result<Worked, AllocError>
-    requires numbered { IsNumbered problem.now }
-    requires margins { AreMargins (margins_of options.now) }
-    requires state { FitsProblem (problem_of problem.now) state }
-    requires root { LiesInRoot (problem_of problem.now) state.space }
-    requires lemmas { AreLemmasAt problem.now options.now lemmas.now }
-    ensures at_once { IfOk result (AnswersAtOnceFor problem.now options.now lemmas.now state) }
-    ensures work { IfOk result (IsWorkFor problem.now options.now lemmas.now state) }
-{
-    let mut room = Room::new(problem);
-    work_in(alloc, &mut room, options, state, lemmas)
 }

@@ -1,7 +1,6 @@
 pub mod Assumes
 pub mod Listed
 pub mod Meaning
-pub mod Nogoods
 pub mod Queue
 pub mod Propagations
 pub mod Sets

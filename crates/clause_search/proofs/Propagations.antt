@@ -1,9 +1,5 @@
 -- What the answers of propagation say follows from what is on the trail.
-use Rattle.std.proofs.Common.{◌≡◌, ◌∙◌, ◌||◌, ◌+◌, map, [], ◌∷◌, Option, Some, unwrap_or, inl, inr, refl, sym, ap, subst, ℕ, ◌<◌, ◌≤◌, length, List, Bool, true, false, IsTrue, arith, get_or}
-use Rattle.std.specs.Prelude.{slice_get}
-use Rattle.std.specs.List.{list_any}
-use Rattle.std.proofs.lemmas.Bool.{cases_lt}
-use Rattle.std.proofs.lemmas.Option.{unwrap_or-slice_get}
+use Rattle.std.proofs.Common.{◌≡◌, inl, inr, sym, subst, ℕ, ◌≤◌, length, true, false, IsTrue, arith}
 use Rattle.std.proofs.lemmas.List.{get_or_past}
 use Rattle.clause_search.specs.declared.literal.Variable.{Variable}
 use Rattle.clause_search.specs.declared.literal.Variable.TheVariants.{Atom, Helper}
@@ -67,17 +63,3 @@ forced c t u l j made undecided unit on e f =
       unit = subst (IsUnit c u) same unit;
       means = atom_means c u made j stands;
     }
-
--- a fact of each clause below one, and of that one
-pub each_more : {X : Type 0} (P : X → Type 0) (xs : List X) (i : ℕ) (x : X) → slice_get xs i ≡ Some x → ((k : ℕ) (d : X) → k < i → P (get_or xs k d)) → P x → (k : ℕ) (d : X) → k < i + 1 → P (get_or xs k d)
-each_more {X} P xs i x e below here k d h = elim (cases_lt k i) [
-  | inl b ↦ below k d b
-  | inr b ↦
-      let same : k ≡ i = omega arith in
-      let got : get_or xs i d ≡ x = sym (unwrap_or-slice_get xs i d) ∙ ap (λ (o : Option X). unwrap_or o d) e in
-      subst (λ (n : ℕ). P (get_or xs n d)) (sym same) (subst P (sym got) here)
-]
-
-pub any_map : {X Y : Type 0} (p : Y → Bool) (f : X → Y) (xs : List X) → list_any p (map f xs) ≡ list_any (λ x. p (f x)) xs
-any_map p f [] = refl
-any_map p f (x ∷ xs) = ap (λ (b : Bool). p (f x) || b) (any_map p f xs)

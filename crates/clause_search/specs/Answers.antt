@@ -1,6 +1,5 @@
 -- What the answers of propagation say.
-use Rattle.std.specs.Prelude.{◌≡◌, ◌⊎◌, ℕ, ◌<◌, List, All, Bool, true, not, IsTrue, Contains, Option, Some, None}
-use Rattle.std.specs.List.{list_all, list_any}
+use Rattle.std.specs.Prelude.{◌≡◌, ℕ, List, All, true, not, IsTrue, Contains}
 use Rattle.poly_graph.specs.ProblemViews.{Parts, problem_of}
 use Rattle.cover_model.specs.State.{State, Loosenings, undecided, with_no, may}
 use Rattle.clause_search.specs.declared.literal.Variable.TheVariants.{Atom}
@@ -11,7 +10,7 @@ use Rattle.clause_search.specs.declared.prop.Prop.{Prop}
 use Rattle.clause_search.specs.declared.prop.Prop.TheVariants.{Forced, Conflict, Rest}
 use Rattle.clause_search.specs.declared.trail.Trail.{Trail}
 use Rattle.clause_search.specs.Found.{OnlyLeft, IsSettledBy}
-use Rattle.clause_search.specs.Trail.{stands_on, undecided_on, was_assumed, nogoods_of, SameNogoods}
+use Rattle.clause_search.specs.Trail.{stands_on, undecided_on, was_assumed, SameVariables}
 use Rattle.clause_search.specs.Agrees.{Agrees}
 
 -- ---- clauses
@@ -26,14 +25,6 @@ pub record IsUnit (c : Cnf) (t : Trail) (l : Literal) : Type 0 where
 -- the clause has a true literal, or two different undecided ones
 abbrev pub IsSettled : Trail → List Literal → Type 0
 IsSettled t clause = IsSettledBy t.values clause
-
--- all literals of the nogood are on the trail
-abbrev pub is_met : Trail → List Literal → Bool
-is_met t nogood = list_all (stands_on t) nogood
-
--- some nogood is met
-abbrev pub meets_nogood : Trail → Bool
-meets_nogood t = list_any (is_met t) (nogoods_of t)
 
 -- ---- states
 
@@ -54,15 +45,14 @@ pub record IsForced (c : Cnf) (t u : Trail) (j : ℕ) : Type 0 where
   pub unit : IsUnit c u (literal (Atom j) true)
   pub means : MayBeMarked c u j
 
--- each clause is settled, no nogood is met, and all that was assumed is on the trail
+-- each clause is settled, and all that was assumed is on the trail
 pub record IsAtRest (c : Cnf) (t : Trail) : Type 0 where
   pub settled : All (IsSettled t) c.clauses
-  pub unmet : IsTrue (not (meets_nogood t))
   pub assumed_on : (l : Literal) → IsTrue (was_assumed t l) → IsTrue (stands_on t l)
 
 abbrev pub IsPropagation : Cnf → Trail → Trail → Prop → Type 0
 IsPropagation c t u (Forced j) = IsForced c t u j
-IsPropagation c t u Conflict = MayNotHold c u ⊎ IsTrue (meets_nogood u)
+IsPropagation c t u Conflict = MayNotHold c u
 IsPropagation c t u Rest = IsAtRest c u
 
 -- the trail has grown by derived literals alone
@@ -70,11 +60,4 @@ pub record Grows (t u : Trail) : Type 0 where
   pub same_assumed : (l : Literal) → was_assumed u l ≡ was_assumed t l
   pub still_on : (l : Literal) → IsTrue (stands_on t l) → IsTrue (stands_on u l)
   pub same_failed : u.failed ≡ t.failed
-  pub same : SameNogoods t u
-
--- ---- choice
-
--- an atom that is undecided, none where there is none
-abbrev pub IsPick : Trail → Option ℕ → Type 0
-IsPick t (Some j) = (j < t.atoms) × IsTrue (undecided_on t (Atom j))
-IsPick t None = (j : ℕ) → j < t.atoms → IsTrue (not (undecided_on t (Atom j)))
+  pub same : SameVariables t u

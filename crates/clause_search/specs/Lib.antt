@@ -3,7 +3,6 @@ pub mod Answers
 pub mod Entailed
 pub mod Found
 pub mod Lists
-pub mod Nogood
 pub mod Pairs
 pub mod Places
 pub mod Table

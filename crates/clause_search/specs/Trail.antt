@@ -1,12 +1,10 @@
 -- A trail: literals that were assumed, or derived from them by clauses.
-use Rattle.std.specs.Prelude.{◌≡◌, ◌⊎◌, ◌<◌, List, [], ◌∷◌, ◌++◌, map, Bool, true, false, not, IsTrue}
+use Rattle.std.specs.Prelude.{◌≡◌, ◌⊎◌, ◌<◌, Bool, true, false, not, IsTrue}
 use Rattle.clause_search.specs.declared.literal.Variable.{Variable}
 use Rattle.clause_search.specs.declared.literal.Variable.TheVariants.{Atom, BoolIs, Helper}
 use Rattle.clause_search.specs.declared.literal.Literal.{Literal}
 use Rattle.clause_search.specs.Clauses.{Cnf}
 use Rattle.clause_search.specs.declared.trail.Trail.{Trail}
-use Rattle.poly_graph.specs.Marks.{Mark}
-use Rattle.clause_search.specs.Nogood.{literals_of}
 use Rattle.clause_search.specs.Table.{opposite, is_true, is_undecided}
 use Rattle.clause_search.specs.Watches.{IsWatching}
 use Rattle.clause_search.specs.Entailed.{Entails, HasNoModel}
@@ -22,9 +20,6 @@ was_assumed t l = is_true t.assumed l
 -- neither the variable nor its opposite is on the trail
 abbrev pub undecided_on : Trail → Variable → Bool
 undecided_on t v = is_undecided t.values v
-
-abbrev pub nogoods_of : Trail → List (List Literal)
-nogoods_of t = map (λ n. n.items) t.nogoods.items
 
 -- an atom or a Bool value
 abbrev pub IsAssumable : Trail → Variable → Type 0
@@ -47,22 +42,11 @@ pub record IsTrailOf (c : Cnf) (t : Trail) : Type 0 where
   pub stands : (l : Literal) → IsTrue (was_assumed t l) → IsTrue (stands_on t l) ⊎ (t.failed ≡ true)
   pub watching : IsWatching c t.values t.watches
 
--- what neither a step nor a new box changes
-pub record SameNogoods (t u : Trail) : Type 0 where
-  pub nogoods : nogoods_of u ≡ nogoods_of t
+-- both are over the same variables
+pub record SameVariables (t u : Trail) : Type 0 where
   pub atoms : u.atoms ≡ t.atoms
   pub axes : u.axes ≡ t.axes
-
--- one more nogood, after the others
-abbrev pub HasNogoodMore : Trail → Trail → List Mark → Type 0
-HasNogoodMore t u marks = nogoods_of u ≡ nogoods_of t ++ (literals_of marks ∷ [])
-
--- the same literals are assumed and on the trail
-pub record SameLiterals (t u : Trail) : Type 0 where
-  pub assumed_same : (l : Literal) → was_assumed u l ≡ was_assumed t l
-  pub on_same : (l : Literal) → stands_on u l ≡ stands_on t l
-  pub atoms_same : u.atoms ≡ t.atoms
-  pub axes_same : u.axes ≡ t.axes
+  pub helpers : u.helpers ≡ t.helpers
 
 -- the literal is assumed too
 pub record AssumesAlso (t u : Trail) (l : Literal) : Type 0 where
@@ -72,7 +56,7 @@ pub record AssumesAlso (t u : Trail) (l : Literal) : Type 0 where
   pub now_on : IsTrue (not (stands_on t (opposite l))) → IsTrue (stands_on u l)
   pub still_on : (m : Literal) → IsTrue (stands_on t m) → IsTrue (stands_on u m)
   pub only_on : (m : Literal) → IsTrue (stands_on u m) → IsTrue (stands_on t m) ⊎ (m ≡ l)
-  pub same : SameNogoods t u
+  pub same : SameVariables t u
 
 -- nothing is assumed, and nothing derived
 pub record IsEmpty (t : Trail) : Type 0 where

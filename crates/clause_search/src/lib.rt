@@ -13,7 +13,6 @@ mod clause_list;
 mod cnf;
 mod lists;
 mod literal;
-mod nogood;
 mod prop;
 mod propagate;
 mod table;

@@ -5,8 +5,8 @@
 pub enum Prop {
     /// A clause forced this atom, which now is on the trail.
     Forced(u32),
-    /// A clause has no literal left, or all literals of a nogood are on the trail.
+    /// A clause has no literal left.
     Conflict,
-    /// Nothing follows from one clause alone, and no nogood is met.
+    /// Nothing follows from one clause alone.
     Rest,
 }

@@ -5,22 +5,14 @@ ghost use Rattle.clause_search.specs.Table.{is_true, open_count};
 ghost use Rattle.clause_search.specs.Found.{UnitAmong};
 
 use crate::clause::Found;
-use crate::nogood::any_true;
 use crate::prop::Prop;
 use crate::trail::Trail;
 use crate::{Cnf, Literal, Variable};
 use std::alloc::AllocError;
 
 impl Trail {
-    ghost use Rattle.clause_search.specs.Trail.{IsTrailOf, undecided_on, nogoods_of};
-    ghost use Rattle.clause_search.specs.Answers.{IsPropagation, Grows, IsUnit, meets_nogood};
-
-    // Whether all literals of a nogood are on the trail.
-    fn meets_nogood(&self) -> bool
-        ensures { result ≡ meets_nogood self.now }
-    {
-        any_true(&self.values, &self.nogoods)
-    }
+    ghost use Rattle.clause_search.specs.Trail.{IsTrailOf, undecided_on};
+    ghost use Rattle.clause_search.specs.Answers.{IsPropagation, Grows, IsUnit};
 
     // Puts a literal on the trail that a clause leaves alone.
     fn derive(&mut self, cnf: &Cnf, literal: Literal)
@@ -37,7 +29,7 @@ impl Trail {
     }
 
     /// Derives literals by clauses that leave one literal alone, up to the first atom that comes onto the
-    /// trail, a conflict, or nothing more to derive. Nogoods derive nothing. It takes no memory, so it never fails.
+    /// trail, a conflict, or nothing more to derive. It takes no memory, so it never fails.
     pub fn propagate(&mut self, cnf: &Cnf) -> Result<Prop, AllocError>
         requires { IsTrailOf cnf.now self.old }
         ensures made { IsTrailOf cnf.now self.new }
@@ -61,10 +53,6 @@ impl Trail {
                 }
             }
         }
-        if self.meets_nogood() {
-            Ok(Prop::Conflict)
-        } else {
-            Ok(Prop::Rest)
-        }
+        Ok(Prop::Rest)
     }
 }

@@ -1,16 +1,14 @@
 // What was assumed, and what follows from it.
-ghost use Rattle.std.specs.Prelude.{◌≡◌, [], ◌∷◌, ◌++◌, ℕ, ◌<◌, ◌↔◌, length, IfOk, OnOk, OnErr, IsTrue};
+ghost use Rattle.std.specs.Prelude.{◌≡◌, ◌↔◌, IfOk, IsTrue};
 ghost use Rattle.clause_search.specs.Clauses as clauses;
 ghost use Rattle.clause_search.specs.Places.{HasPlaces};
 
-use crate::nogood::literals_of;
 use crate::table::Table;
 use crate::watches::Watches;
 use crate::{Cnf, Literal, Variable};
-use poly_graph::Lits;
 use std::alloc::{AllocError, Global};
 
-/// Literals that were assumed, those that clauses derived from them, and nogoods.
+/// Literals that were assumed, and those that clauses derived from them.
 #[derive(Drop)]
 pub struct Trail {
     pub(crate) atoms: u32,
@@ -21,20 +19,17 @@ pub struct Trail {
     pub(crate) assumed: Table,
     // a literal was assumed whose opposite had been derived
     pub(crate) failed: bool,
-    pub(crate) nogoods: Vec<Vec<Literal>>,
     pub(crate) watches: Watches,
     ghost places: { HasPlaces atoms axes helpers values assumed },
 }
 
 impl Trail {
-    ghost use Rattle.clause_search.specs.Trail.{IsTrailOf, CanAssume, AssumesAlso, SameNogoods, HasNogoodMore, SameLiterals, IsEmpty, nogoods_of, stands_on, undecided_on};
-    ghost use Rattle.clause_search.specs.Answers.{IsPick};
+    ghost use Rattle.clause_search.specs.Trail.{IsTrailOf, CanAssume, AssumesAlso, SameVariables, IsEmpty, stands_on, undecided_on};
 
-    /// An empty trail over these clauses, without nogoods.
+    /// An empty trail over these clauses.
     pub fn new(alloc: Global, cnf: &Cnf) -> Result<Self, AllocError>
         ensures made { IfOk result (IsTrailOf cnf.now) }
         ensures empty { IfOk result IsEmpty }
-        ensures nogoods { IfOk result (λ t. nogoods_of t ≡ []) }
     {
         let atoms = cnf.atoms();
         let axes = cnf.axes();
@@ -46,15 +41,14 @@ impl Trail {
             values: Table::new(alloc, atoms, axes, helpers)?,
             assumed: Table::new(alloc, atoms, axes, 0)?,
             failed: false,
-            nogoods: Vec::new(alloc),
             watches: Watches::new(alloc, cnf)?,
         })
     }
 
-    /// Forgets all that was assumed and derived, and keeps the nogoods.
+    /// Forgets all that was assumed and derived.
     pub fn clear(&mut self)
         ensures empty { IsEmpty self.new }
-        ensures same { SameNogoods self.old self.new }
+        ensures same { SameVariables self.old self.new }
         ensures kept { (c : clauses.Cnf) → IsTrailOf c self.old → IsTrailOf c self.new }
     {
         self.values.clear();
@@ -90,25 +84,6 @@ impl Trail {
         }
     }
 
-    /// Adds a nogood: the marks of a state that no point of the form has.
-    ///
-    /// # Errors
-    ///
-    /// Memory ran out; the trail is unchanged.
-    pub fn add_nogood(&mut self, alloc: Global, nogood: &Lits) -> Result<(), AllocError>
-        requires { length nogood.now ≡ self.old.atoms }
-        ensures added { OnOk result (HasNogoodMore self.old self.new nogood.now) }
-        ensures unchanged { OnErr result (nogoods_of self.new ≡ nogoods_of self.old) }
-        ensures literals { SameLiterals self.old self.new }
-        ensures kept { (c : clauses.Cnf) → IsTrailOf c self.old → IsTrailOf c self.new }
-    {
-        // the number of atoms has 32 bits, which `literals_of` requires of the marks
-        let _atoms = self.atoms;
-        let literals = literals_of(alloc, nogood)?;
-        self.nogoods.push(literals)?;
-        Ok(())
-    }
-
     /// Whether the literal is on the trail.
     pub fn stands(&self, literal: Literal) -> bool
         ensures { result ≡ stands_on self.now literal }
@@ -121,17 +96,5 @@ impl Trail {
         ensures { result ≡ undecided_on self.now variable }
     {
         self.values.is_open(variable)
-    }
-
-    /// An atom that is undecided, if there is one.
-    pub fn pick(&self) -> Option<u32>
-        ensures { IsPick self.now result }
-    {
-        for j in 0..self.atoms {
-            if self.values.is_open(Variable::Atom(j)) {
-                return Some(j);
-            }
-        }
-        None
     }
 }

@@ -3,7 +3,6 @@ ghost use Rattle.clause_search.specs.Trail.{IsTrailOf};
 
 use crate::problems::{Form, clauses_of};
 use clause_search::{Cnf, Literal, Variable, *};
-use poly_graph::{Lits, Mark};
 use std::alloc::Global;
 use std::test::Fail;
 
@@ -34,21 +33,6 @@ fn run(cnf: &Cnf, trail: &mut Trail) -> Option<(u32, Prop)>
     None
 }
 
-// Adds the nogood that atom 4 is marked yes; whether that could be done.
-fn forbid(alloc: Global, cnf: &Cnf, trail: &mut Trail) -> bool
-    requires { IsTrailOf cnf.now trail.old }
-    ensures { IsTrailOf cnf.now trail.new }
-{
-    let Ok(mut nogood) = Lits::new(alloc, 5) else {
-        return false;
-    };
-    if nogood.len() != 5 || cnf.atoms() != 5 {
-        return false;
-    }
-    nogood.set(4, Mark::Yes);
-    trail.add_nogood(alloc, &nogood).is_ok()
-}
-
 // ---- trails of one form
 
 // 0 and 1 and (2 or 3) and 4
@@ -65,19 +49,15 @@ const SHAPE: [Form; 7] = [
 // What is asked of a trail, and what it answers.
 enum Step {
     Assume(Variable, bool),
-    // Adds the nogood that atom 4 is marked yes.
-    Forbid,
     Clear,
     // Propagates to the end: which atoms of these bits are forced, and the last answer.
     Run(u32, u32, Prop),
-    // Whether there is a variable to pick.
-    Picks(bool),
     // Whether this one is not decided.
     IsOpen(Variable, bool),
 }
 
 // Whether the trail answers so.
-fn is_answered(alloc: Global, cnf: &Cnf, trail: &mut Trail, step: &Step) -> bool
+fn is_answered(cnf: &Cnf, trail: &mut Trail, step: &Step) -> bool
     requires { IsTrailOf cnf.now trail.old }
     ensures { IsTrailOf cnf.now trail.new }
 {
@@ -86,7 +66,6 @@ fn is_answered(alloc: Global, cnf: &Cnf, trail: &mut Trail, step: &Step) -> bool
             assume(cnf, trail, *variable, *positive);
             true
         }
-        Step::Forbid => forbid(alloc, cnf, trail),
         Step::Clear => {
             trail.clear();
             true
@@ -95,18 +74,17 @@ fn is_answered(alloc: Global, cnf: &Cnf, trail: &mut Trail, step: &Step) -> bool
             Some((forced, last)) => forced & *of == *wanted && last == *answer,
             None => false,
         },
-        Step::Picks(picks) => trail.pick().is_some() == *picks,
         Step::IsOpen(variable, open) => trail.is_undecided(*variable) == *open,
     }
 }
 
 // Whether it answers so to each step, one after the other.
-fn are_answered(alloc: Global, cnf: &Cnf, trail: &mut Trail, steps: &[Step]) -> bool
+fn are_answered(cnf: &Cnf, trail: &mut Trail, steps: &[Step]) -> bool
     requires { IsTrailOf cnf.now trail.old }
     ensures { IsTrailOf cnf.now trail.new }
 {
     for step in steps {
-        if !is_answered(alloc, cnf, trail, step) {
+        if !is_answered(cnf, trail, step) {
             return false;
         }
     }
@@ -116,7 +94,7 @@ fn are_answered(alloc: Global, cnf: &Cnf, trail: &mut Trail, steps: &[Step]) -> 
 // The same of a new trail of the clauses.
 fn follows_in(alloc: Global, cnf: &Cnf, steps: &[Step]) -> bool {
     match Trail::new(alloc, cnf) {
-        Ok(mut trail) => are_answered(alloc, cnf, &mut trail, steps),
+        Ok(mut trail) => are_answered(cnf, &mut trail, steps),
         Err(_) => false,
     }
 }
@@ -127,35 +105,26 @@ fn follows(alloc: Global, steps: &[Step]) -> Result<bool, Fail> {
     Ok(follows_in(alloc, &cnf, steps))
 }
 
-const TRAILS: [&[Step]; 4] = [
+const TRAILS: [&[Step]; 3] = [
     // each atom is forced
     &[
         Step::Assume(Variable::Atom(2), false),
         Step::Run(0b11111, 0b11011, Prop::Rest),
-        Step::Picks(false),
     ],
     // one is assumed against what was derived
     &[
         Step::Run(0b11111, 0b10011, Prop::Rest),
-        Step::Picks(true),
         Step::IsOpen(Variable::Atom(2), true),
         Step::IsOpen(Variable::Atom(4), false),
         Step::Assume(Variable::Atom(4), false),
         Step::Run(0, 0, Prop::Conflict),
     ],
-    // a nogood, after whose atom was forced
+    // what was assumed is forgotten, and what follows from the form alone is derived again
     &[
-        Step::Forbid,
-        Step::Assume(Variable::Atom(2), false),
-        Step::Run(0b10000, 0b10000, Prop::Conflict),
-    ],
-    // a nogood on the trail, which stays
-    &[
-        Step::Run(0, 0, Prop::Rest),
-        Step::Forbid,
+        Step::Assume(Variable::Atom(4), false),
         Step::Run(0, 0, Prop::Conflict),
         Step::Clear,
-        Step::Run(0, 0, Prop::Conflict),
+        Step::Run(0b11111, 0b10011, Prop::Rest),
     ],
 ];
 

@@ -1,11 +1,4 @@
 // Rows of small graphs, against ends that were computed by hand, and the ways to fill them against one another.
-ghost use Rattle.std.specs.Prelude.{◌≡◌, ◌+◌, ◌<◌, ◌≤◌, [], ◌∷◌, length};
-ghost use Rattle.hc4.specs.Above.{IsAbove};
-ghost use Rattle.ival.specs.RowViews.{rows_of};
-ghost use Rattle.ival.specs.SpaceViews.{space_of};
-ghost use Rattle.dyadic.specs.Fraction.{Fraction};
-ghost use Rattle.poly_graph.specs.Term.{constant_node, variable_node, add_node, square_node};
-
 use crate::bench::{Bench, Span, Term, bench_of, domain_of, same_rows};
 use crate::graphs::{CUBE, DIFFERENCE, GRAPHS, SQUARE_AND_ONE};
 use dyadic::{Dy, Ext, read_dy};
@@ -13,9 +6,7 @@ use hc4::*;
 use ival::{Domain, Ival, Rows, Space};
 use plain_eval::enclose;
 use poly_graph::Graph;
-use std::alloc::{AllocError, Global};
-use std::marker::Brand;
-use std::sync::ledger::{Blank, Ledger};
+use std::alloc::Global;
 
 // ---- ends of the last row
 
@@ -105,7 +96,7 @@ fn moved_row(graph: &Graph, space: &mut Space, domain: Domain, rows: &mut Rows) 
     }
     fill(graph, space, rows);
     space.set(1, domain);
-    refill(graph, space, 1, rows);
+    follow(graph, space, rows);
     Some(rows.get(graph.len() - 1))
 }
 
@@ -140,7 +131,7 @@ fn last_rows(rt: HostRuntime) {
 
 // ---- rows that are renewed
 
-// Whether the rows are renewed as a whole fill computes them, once the first axis was given another domain.
+// Whether the rows follow as a whole fill computes them, once the first axis was given another domain.
 fn is_renewed(
     graph: &Graph,
     space: &mut Space,
@@ -153,12 +144,12 @@ fn is_renewed(
     }
     fill(graph, space, rows);
     space.set(0, domain);
-    refill(graph, space, 0, rows);
+    follow(graph, space, rows);
     fill(graph, space, others);
     same_rows(rows, others)
 }
 
-// Whether rows follow a space of which both axes were given another domain.
+// The same once both axes were.
 fn is_followed(
     graph: &Graph,
     space: &mut Space,
@@ -202,87 +193,4 @@ fn rows_are_renewed(rt: HostRuntime) {
     for terms in &GRAPHS {
         assert!(rt; are_renewed(rt.alloc(), terms));
     }
-}
-
-// ---- steps that are counted
-
-// Renews the rows once the first axis was given another domain. Of a circle's rows at most 4 are computed.
-fn renew_counted<L: Ledger>(
-    graph: &Graph,
-    space: &mut Space,
-    domain: Domain,
-    above: &Above,
-    rows: &mut Rows,
-    steps: &mut Steps<L>,
-)
-    requires axes { 0 < length (space_of space.old) }
-    requires variables { 0 < length above.now.variables.items }
-    requires above { IsAbove graph.now above.now }
-    requires rows { length (rows_of rows.old) ≡ length graph.now }
-    ensures { (q : Fraction) → graph.now ≡
-        variable_node 0 ∷ square_node 0 ∷ variable_node 1 ∷ square_node 2
-        ∷ add_node 1 3 ∷ constant_node q ∷ add_node 4 5 ∷ [] →
-        steps.new ≤ steps.old + 4 }
-{
-    fill(graph, space, rows);
-    space.set(0, domain);
-    refill_counted(graph, space, 0, above, rows, steps);
-}
-
-// Whether the rows of the graph, filled over the box, are renewed so as a whole fill computes them.
-fn renewed_alike<L: Ledger>(
-    alloc: Global,
-    bench: &mut Bench,
-    domain: Domain,
-    steps: &mut Steps<L>,
-) -> Result<bool, AllocError> {
-    let graph = &bench.graph;
-    if bench.space.len() < 2
-        || bench.rows.len() != graph.len()
-        || bench.others.len() != graph.len()
-    {
-        return Ok(false);
-    }
-    let above = Above::new(alloc, graph, bench.space.len())?;
-    renew_counted(
-        graph,
-        &mut bench.space,
-        domain,
-        &above,
-        &mut bench.rows,
-        steps,
-    );
-    fill(graph, &bench.space, &mut bench.others);
-    Ok(same_rows(&bench.rows, &bench.others))
-}
-
-// x * x + y * y - 1
-const CIRCLE: [Term; 7] = [
-    Term::Var(0),
-    Term::Sq(0),
-    Term::Var(1),
-    Term::Sq(2),
-    Term::Add(1, 3),
-    Term::Whole(-1),
-    Term::Add(4, 5),
-];
-
-// The same, of a circle whose x was between -2 and 2, and then from 1/2 to 1.
-fn circle_renewed_alike<L: Ledger>(alloc: Global, blank: Blank) -> Option<bool>
-    requires name { blank.name ≡ L.name }
-    requires parts { blank.parts ≡ L.parts }
-    requires some { 0 < blank.parts }
-{
-    let mut steps = Steps::<L>::new(blank);
-    let right = domain_of(("1b-1", "1b0"))?;
-    let mut bench = bench_of(alloc, &CIRCLE, ("-1b1", "1b1"))?;
-    renewed_alike(alloc, &mut bench, right, &mut steps).ok()
-}
-
-#[test]
-fn circles_are_renewed_in_few_steps(rt: HostRuntime) {
-    assert_eq!(rt;
-        circle_renewed_alike::<Brand>(rt.alloc(), Blank::new(1)),
-        Some(true)
-    );
 }

@@ -1,11 +1,16 @@
 // Atoms that narrow boxes, by the search's sweep and by the checker's plain way, which are to agree; what is left was
 // computed by hand.
+ghost use Rattle.std.specs.Prelude.{◌≡◌, ◌<◌, length};
+ghost use Rattle.cover_model.specs.Narrowed.{enclosures};
+ghost use Rattle.ival.specs.RowViews.{rows_of};
+ghost use Rattle.ival.specs.SpaceViews.{space_of};
+
 use crate::bench::{Bench, Left, Span, Term, bench_of, is_left, same_space};
 use crate::graphs::{GRAPHS, SQUARE_AND_ONE};
 use crate::of_hc4::last_row;
 use hc4::{fill, narrow, narrow_off};
 use ival::{Narrowed, Rows, Space};
-use plain_eval::{narrow_off_plain, narrow_plain};
+use plain_eval::{enclose, narrow_enclosed, narrow_off_enclosed};
 use poly_graph::{Atom, Graph, Kind};
 use std::alloc::Global;
 
@@ -14,6 +19,16 @@ use std::alloc::Global;
 enum By {
     Atom(u32, Kind),
     Failing(u32, Kind),
+}
+
+// Puts the checker's enclosures of all terms over the space into the rows.
+fn enclose_all(graph: &Graph, space: &Space, rows: &mut Rows)
+    requires graph { 0 < length graph.now }
+    requires rows { length (rows_of rows.old) ≡ length graph.now }
+    ensures { rows_of rows.new ≡ enclosures (space_of space.now) graph.now }
+{
+    let last = graph.len() - 1;
+    let _ = enclose(graph, last as u32, space, rows);
 }
 
 // What the checker's way leaves of the space.
@@ -25,15 +40,17 @@ fn by_plain(
     scratch: &mut Rows,
     space: &mut Space,
 ) -> Option<Narrowed> {
-    if bits > 120 || rows.len() != graph.len() || scratch.len() != graph.len() {
+    let count = graph.len();
+    if bits > 120 || count == 0 || rows.len() != count || scratch.len() != count {
         return None;
     }
+    enclose_all(graph, space, rows);
     match by {
         By::Atom(term, kind) if (term as usize) < graph.len() => {
-            Some(narrow_plain(graph, &Atom { term, kind }, bits, rows, scratch, space))
+            Some(narrow_enclosed(graph, &Atom { term, kind }, bits, rows, scratch, space))
         }
         By::Failing(term, kind) if (term as usize) < graph.len() => {
-            Some(narrow_off_plain(graph, &Atom { term, kind }, bits, rows, scratch, space))
+            Some(narrow_off_enclosed(graph, &Atom { term, kind }, bits, rows, scratch, space))
         }
         _ => None,
     }

@@ -9,7 +9,7 @@ use Rattle.cover_model.specs.Narrowed.{if_child, left_by, with_parent, from_pare
 use Rattle.cover_model.specs.NodeEnclosure.{row}
 use Rattle.cover_model.specs.Honest.{is_some_space}
 use Rattle.ival.specs.RowViews.{is_marked}
-use Rattle.hc4.proofs.Upwards.{or-right}
+use Rattle.hc4.proofs.Children.{or-right}
 
 left-square : (t : Bool) (i j n : Interval) → (t ≡ true → i ≡ j) → if_child t (inverse_square i n) ≡ if_child t (inverse_square j n)
 left-square true i j n h = ap (λ (x : Interval). inverse_square x n) (h refl)

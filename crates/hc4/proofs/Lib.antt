@@ -1,7 +1,6 @@
+pub mod Children
 pub mod Leaves
 pub mod Reaches
-pub mod Upwards
-pub mod Counts
 pub mod Pushes
 pub mod Sweeping
 pub mod Skipped

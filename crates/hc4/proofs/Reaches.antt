@@ -1,17 +1,16 @@
 -- A node from which no changed axis is reached keeps its enclosure.
-use Rattle.std.proofs.Common.{◌≡◌, ◌≢◌, ℕ, suc, zero, ◌+◌, ◌<◌, ◌≤◌, [], ◌∷◌, length, set, below_more, get_or-set_other, get_or-set_same, ⊎_elim, subst, List, Bool, true, false, IsTrue, Some, refl, ap, sym, ◌∙◌, arith}
+use Rattle.std.proofs.Common.{◌≡◌, ◌≢◌, ℕ, ◌+◌, ◌<◌, ◌≤◌, length, set, below_more, get_or-set_other, get_or-set_same, ⊎_elim, subst, List, Bool, true, false, IsTrue, Some, refl, ap, sym, ◌∙◌, arith}
 use Rattle.std.proofs.lemmas.List.{length-set}
 use Rattle.std.proofs.lemmas.Bool.{cases_lt}
 use Rattle.std.specs.Prelude.{slice_get}
 use Rattle.interval_model.specs.Interval.{Interval, nothing}
 use Rattle.poly_graph.specs.Term.{Node, variable_node, in_order, has_child}
-use Rattle.interval_model.specs.Space.{Domain, Space, axis_interval}
+use Rattle.interval_model.specs.Space.{Space, axis_interval}
 use Rattle.cover_model.specs.Narrowed.{enclosures}
 use Rattle.cover_model.specs.NodeEnclosure.{row, node_enclosure}
 use Rattle.cover_model.proofs.NodeEnclosures.{comes_at, next_row}
 use Rattle.ival.specs.RowViews.{is_marked}
-use Rattle.hc4.specs.Reached.{SameBut}
-use Rattle.hc4.proofs.Upwards.{child-below, same_children}
+use Rattle.hc4.proofs.Children.{child-below, same_children}
 
 -- ---- the sweep over the nodes
 
@@ -75,12 +74,3 @@ renewed_at nodes space start n es es' marks marks' node o e inside inside-marks 
           let w : is_marked marks' n ≡ false = subst (λ (x : ℕ). is_marked marks' x ≡ false) at m in cc))
           (cases_lt k n);
     }
-
--- ---- for callers: a space of which one axis was set differs at most there
-
-pub set_same_but : (axis : ℕ) (d : Domain) (s : Space) → SameBut axis s (set s axis d)
-set_same_but axis d [] k h = refl
-set_same_but zero d (e ∷ s) zero h = absurd (h refl)
-set_same_but zero d (e ∷ s) (suc k) h = refl
-set_same_but (suc axis) d (e ∷ s) zero h = refl
-set_same_but (suc axis) d (e ∷ s) (suc k) h = set_same_but axis d s k (λ p. h (ap suc p))

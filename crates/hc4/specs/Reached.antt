@@ -1,5 +1,5 @@
--- From which nodes a changed axis is reached, and rows that are right but for some axes.
-use Rattle.std.specs.Prelude.{◌≡◌, ◌≢◌, ℕ, List, true, false}
+-- From which nodes a changed axis is reached, and rows that are the enclosures over some space.
+use Rattle.std.specs.Prelude.{◌≡◌, ℕ, List, true, false}
 use Rattle.interval_model.specs.Interval.{Interval}
 use Rattle.poly_graph.specs.Term.{Node, variable_node, has_child}
 use Rattle.interval_model.specs.Space.{Space, axis_interval}
@@ -19,13 +19,3 @@ pub record IsCalm (space : CodeSpace) (rows : Rows) (n : ℕ) (p : Node) : Type 
 pub record AreEnclosures (nodes : List Node) (es : List Interval) : Type 0 where
   pub was : Space
   pub filled : es ≡ enclosures was nodes
-
--- the same is left to every other axis
-abbrev pub SameBut : ℕ → Space → Space → Type 0
-SameBut axis s t = (k : ℕ) → k ≢ axis → axis_interval s k ≡ axis_interval t k
-
--- the rows are the enclosures over a space that differs from this one at most at the axis
-pub record FilledBut (axis : ℕ) (nodes : List Node) (space : Space) (es : List Interval) : Type 0 where
-  pub was : Space
-  pub filled : es ≡ enclosures was nodes
-  pub others : SameBut axis was space

@@ -1,8 +1,7 @@
 -- What a sweep starts from, and what it leaves in its scratch.
 use Rattle.std.specs.Prelude.{◌≡◌, ◌⊎◌, ℕ, List, Option, Some, None, slice_get, slice_index_or}
 use Rattle.interval_model.specs.Interval.{Interval, nothing}
-use Rattle.interval_model.specs.Space.{Space}
-use Rattle.cover_model.specs.Narrowed.{enclosures, narrowed}
+use Rattle.cover_model.specs.Narrowed.{narrowed}
 use Rattle.cover_model.specs.NodeEnclosure.{row}
 use Rattle.ival.specs.declared.ends.Ival.{Ival}
 use Rattle.ival.specs.declared.row_parts.Rows.{Rows}
@@ -11,11 +10,6 @@ use Rattle.ival.specs.RowViews.{rows_of}
 use Rattle.ival.specs.Options.{option_at}
 use Rattle.poly_graph.specs.Term.{Node}
 use Rattle.hc4.specs.Pushed.{kept_by}
-
--- the rows are the enclosures of the nodes over some space
-pub record AreEnclosures (nodes : List Node) (es : List Interval) : Type 0 where
-  pub space : Space
-  pub filled : es ≡ enclosures space nodes
 
 -- what stands in a place stands for this interval: itself, or where nothing stands the enclosure e of the place, if that is not empty
 abbrev pub StandsFor : Interval → Option Interval → Option Interval → Type 0

@@ -3,7 +3,7 @@ ghost use Rattle.std.specs.Prelude.{◌≡◌, length};
 ghost use Rattle.cover_model.specs.Narrowed.{enclosures};
 ghost use Rattle.ival.specs.RowViews.{rows_of, marks_of};
 ghost use Rattle.ival.specs.SpaceViews.{space_of};
-ghost use Rattle.hc4.specs.Reached.{AreEnclosures, FilledBut};
+ghost use Rattle.hc4.specs.Reached.{AreEnclosures};
 ghost use Rattle.hc4.specs.Apart.{IsApart};
 
 use crate::node_interval::node_interval;
@@ -39,13 +39,4 @@ pub fn follow(graph: &Graph, space: &Space, rows: &mut Rows)
             renew(node, place, space, rows);
         }
     }
-}
-
-/// As `follow`, where the other space differs from this one at most at the axis.
-pub fn refill(graph: &Graph, space: &Space, _axis: u32, rows: &mut Rows)
-    requires { FilledBut _axis graph.now (space_of space.now) (rows_of rows.old) }
-    ensures rows { rows_of rows.new ≡ enclosures (space_of space.now) graph.now }
-    ensures apart { IsApart graph.now (rows_of rows.old) (rows_of rows.new) (marks_of rows.new) }
-{
-    follow(graph, space, rows);
 }

@@ -5,7 +5,8 @@ ghost use Rattle.cover_model.specs.Narrowed.{some_empty};
 ghost use Rattle.ival.specs.Views.{interval_of};
 ghost use Rattle.ival.specs.RowViews.{rows_of};
 ghost use Rattle.ival.specs.Options.{option_at};
-ghost use Rattle.hc4.specs.Sweeps.{AreEnclosures, HasVariables, narrowed_under};
+ghost use Rattle.hc4.specs.Reached.{AreEnclosures};
+ghost use Rattle.hc4.specs.Sweeps.{HasVariables, narrowed_under};
 
 use crate::push::{push_to, visit};
 use ival::{Ival, Rows};

@@ -3,9 +3,9 @@
 //! alike in definitions only, so that a fault in the search's passes is not a fault of the checker too.
 //!
 //! `enclose` gives enclosures of terms, from node 0 up. `follow` lets rows of enclosures follow from one space to another:
-//! it looks at the variables, and above them at what has a child whose enclosure changed. `narrow_plain` gives what an atom
-//! leaves of a space, from the atom's term down, each node once all its parents have left it what they leave;
-//! `narrow_enclosed` does so from rows of enclosures.
+//! it looks at the variables, and above them at what has a child whose enclosure changed. From these rows
+//! `narrow_enclosed` gives what an atom leaves of a space, from the atom's term down, each node once all its parents have
+//! left it what they leave.
 //!
 //! `combine_plain` leaves of a space what a combination of marked atoms leaves of it. Its sweep goes from the highest root
 //! down and keeps the coefficients of each node's difference in rows; the parts of the variables are read off these rows:
@@ -36,6 +36,6 @@ mod upward;
 pub use combining::combine_plain;
 pub use enclosing::enclose;
 pub use following::follow;
-pub use narrowing::{narrow_enclosed, narrow_off_enclosed, narrow_off_plain, narrow_plain};
+pub use narrowing::{narrow_enclosed, narrow_off_enclosed};
 pub use room::{Coefficients, Room};
 pub use upward::Upward;

@@ -8,7 +8,6 @@ ghost use Rattle.ival.specs.Views.{interval_of};
 ghost use Rattle.plain_eval.specs.Narrowing.{IsNarrowedByAtom, IsNarrowedOff};
 
 use crate::axes::narrow_axes;
-use crate::enclosing::enclose;
 use crate::scratch::some_empty;
 use crate::subterms::narrow_rows;
 use cover_model::{off_range_ends, range_ends};
@@ -43,8 +42,9 @@ fn narrow_by(
     }
 }
 
-/// As `narrow_plain`, where the rows are the enclosures over the space already: only nodes under the atom are looked
-/// at.
+/// Leaves of the space what an atom leaves of it that holds but for 2 to the power of minus `loosen`, and tells
+/// whether that is less; where it is nothing the space stays as it was. The rows are the enclosures over the space;
+/// there are as many rows of scratch as nodes, whatever stands there. Only nodes under the atom are looked at.
 pub fn narrow_enclosed(
     graph: &Graph,
     atom: &Atom,
@@ -64,32 +64,9 @@ pub fn narrow_enclosed(
     narrow_by(graph, atom.term, Ival::new(low, high), rows, scratch, space)
 }
 
-/// Leaves of the space what an atom leaves of it that holds but for 2 to the power of minus `loosen`, and tells
-/// whether that is less; where it is nothing the space stays as it was. There are as many rows and as many rows
-/// of scratch as nodes; after it the rows are the enclosures over the space as it was.
-pub fn narrow_plain(
-    graph: &Graph,
-    atom: &Atom,
-    loosen: u32,
-    rows: &mut Rows,
-    scratch: &mut Rows,
-    space: &mut Space,
-) -> Narrowed
-    requires loosen { loosen ≤ 120 }
-    requires place { atom.now.term < length graph.now }
-    requires rows { length (rows_of rows.old) ≡ length graph.now }
-    requires scratch { length (rows_of scratch.old) ≡ length graph.now }
-    ensures narrowed { IsNarrowedByAtom graph.now atom.now loosen space.old space.new result }
-    ensures rows { rows_of rows.new ≡ enclosures (space_of space.old) graph.now }
-    ensures scratch { length (rows_of scratch.new) ≡ length graph.now }
-{
-    let last = graph.len() - 1;
-    let _ = enclose(graph, last as u32, space, rows);
-    narrow_enclosed(graph, atom, loosen, rows, scratch, space)
-}
-
-/// As `narrow_off_plain`, where the rows are the enclosures over the space already: only nodes under the atom are looked
-/// at.
+/// Leaves of the space what an atom leaves of it that does not hold even but for 2 to the power of minus `loosen`, and
+/// tells whether that is less; where it is nothing the space stays as it was. An equation leaves nothing only where its
+/// term has no value. Rows and conditions are those of [`narrow_enclosed`].
 pub fn narrow_off_enclosed(
     graph: &Graph,
     atom: &Atom,
@@ -107,28 +84,4 @@ pub fn narrow_off_enclosed(
 {
     let (low, high) = off_range_ends(atom.kind, loosen);
     narrow_by(graph, atom.term, Ival::new(low, high), rows, scratch, space)
-}
-
-/// Leaves of the space what an atom leaves of it that does not hold even but for 2 to the power of minus `loosen`, and
-/// tells whether that is less; where it is nothing the space stays as it was. An equation leaves nothing only where its
-/// term has no value. Rows and conditions are those of [`narrow_plain`].
-pub fn narrow_off_plain(
-    graph: &Graph,
-    atom: &Atom,
-    loosen: u32,
-    rows: &mut Rows,
-    scratch: &mut Rows,
-    space: &mut Space,
-) -> Narrowed
-    requires loosen { loosen ≤ 120 }
-    requires place { atom.now.term < length graph.now }
-    requires rows { length (rows_of rows.old) ≡ length graph.now }
-    requires scratch { length (rows_of scratch.old) ≡ length graph.now }
-    ensures narrowed { IsNarrowedOff graph.now atom.now loosen space.old space.new result }
-    ensures rows { rows_of rows.new ≡ enclosures (space_of space.old) graph.now }
-    ensures scratch { length (rows_of scratch.new) ≡ length graph.now }
-{
-    let last = graph.len() - 1;
-    let _ = enclose(graph, last as u32, space, rows);
-    narrow_off_enclosed(graph, atom, loosen, rows, scratch, space)
 }

@@ -16,7 +16,8 @@ fn work(alloc: Global, problem: &Problem) -> Result<Worked, AllocError>
 {
     let space = Space::with_capacity(alloc, 0)?;
     let lits = Lits::new(alloc, 0)?;
-    work_on(alloc, problem, &USUAL, State::new(space, lits), &[])
+    let mut room = Room::new(problem);
+    work_in(alloc, &mut room, &USUAL, State::new(space, lits), &[])
 }
 
 // Whether it finds the point of no axes.

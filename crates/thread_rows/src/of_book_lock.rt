@@ -1,5 +1,5 @@
 // Threads that learn the middle of the square in one book.
-ghost use Rattle.std.specs.Prelude.{◌≡◌, ◌+◌, ◌≤◌, ◌<◌, All, true};
+ghost use Rattle.std.specs.Prelude.{◌≡◌, ◌+◌, ◌≤◌, ◌<◌, All, IfOk, true, vec_len};
 ghost use Rattle.book_lock.specs.Shared.{IsOnePartSeatOf, IsSeatOf, first_of, view};
 ghost use Rattle.thread_rows.specs.TriedBookLock.{IsTried};
 ghost use Rattle.sample_problems.specs.Small.{IsSmall};
@@ -11,7 +11,7 @@ use cover_book::{Book, Learned};
 use cover_data::Margins;
 use poly_graph::Problem;
 use sample_problems::scripts::SWAPPED;
-use std::alloc::Global;
+use std::alloc::{AllocError, Global};
 use std::sync::Wait;
 use std::sync::atomic::{AtomicU64, Ordering};
 use std::thread::{Threads, for_each_mut};
@@ -60,6 +60,40 @@ fn learn_all<R: Threads + Wait + Sync>(
     );
 }
 
+// New seats, each with one part of this one's. Without memory nothing is split.
+fn split_seats(
+    shared: &SharedBook,
+    alloc: Global,
+    seat: &mut BookSeat,
+    count: usize,
+) -> Result<Vec<BookSeat>, AllocError>
+    requires own { IsSeatOf shared.now seat.old }
+    requires parts { count < (view seat.old).parts }
+    ensures own { IsSeatOf shared.now seat.new }
+    ensures parts { IfOk result (λ _. (view seat.new).parts + count ≡ (view seat.old).parts) }
+    ensures seats { IfOk result (λ v. All (IsOnePartSeatOf shared.now) v.items) }
+    ensures count { IfOk result (λ v. vec_len v ≡ count) }
+{
+    let mut seats = Vec::with_capacity(alloc, count)?;
+    for _ in 0..count {
+        seats.push_reserved(shared.split_seat(seat));
+    }
+    Ok(seats)
+}
+
+// Joins seats with a part each into this one, the last first.
+fn join_seats(shared: &SharedBook, seat: &mut BookSeat, seats: Vec<BookSeat>)
+    requires own { IsSeatOf shared.now seat.old }
+    requires seats { All (IsOnePartSeatOf shared.now) seats.items }
+    ensures own { IsSeatOf shared.now seat.new }
+    ensures parts { (view seat.new).parts ≡ (view seat.old).parts + vec_len seats }
+{
+    let mut seats = seats;
+    while let Some(other) = seats.pop() {
+        shared.join_seat(seat, other);
+    }
+}
+
 // So many threads do. Whether there was memory for their seats.
 fn learn_in_threads<R: Threads + Wait + Sync>(
     rt: &R,
@@ -74,11 +108,11 @@ fn learn_in_threads<R: Threads + Wait + Sync>(
     ensures own { IsSeatOf lessons.now.shared.now lead.new }
     ensures parts { result ≡ true → (view lead.new).parts ≡ (view lead.old).parts }
 {
-    let Ok(mut seats) = lessons.shared.split_seats(alloc, lead, threads as usize) else {
+    let Ok(mut seats) = split_seats(lessons.shared, alloc, lead, threads as usize) else {
         return false;
     };
     learn_all(rt, alloc, lessons, seats.as_mut_slice());
-    lessons.shared.join_seats(lead, seats);
+    join_seats(lessons.shared, lead, seats);
     true
 }
 

@@ -22,7 +22,7 @@ pub prove_eq-unreachable-requires : goal.prove_eq-unreachable-requires
 prove_eq-unreachable-requires c = c.if-prove_eq.true (c.len.ensures ∙ ap length c.requires.rows ∙ length_enclosures (space_of c.args.space.now) c.args.graph.now ∙ sym c.len-2.ensures.len)
 
 pub sweep-requires-clause-enclosures : goal.sweep-requires-clause-enclosures
-sweep-requires-clause-enclosures c = record { space = space_of c.args.space.now; filled = c.requires.rows }
+sweep-requires-clause-enclosures c = record { was = space_of c.args.space.now; filled = c.requires.rows }
 
 pub returns-then-not-sweep-clause-narrowed : goal.returns-then-not-sweep-clause-narrowed
 returns-then-not-sweep-clause-narrowed c =

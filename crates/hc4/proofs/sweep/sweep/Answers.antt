@@ -32,7 +32,7 @@ loop-n-preserved c =
     has_option scratch c.in-Some.n next.marked ∙ ap (λ (i : Interval). Some i) (sym c.get-narrowed.ensures) in
     record {
       count = c.visit.ensures.count ∙ c.loop-n.invariant.count;
-      swept = swept_next c.requires.enclosures.space c.args.graph.now (rows_of c.args.rows.now) c.args.root (interval_of c.args.range)
+      swept = swept_next c.requires.enclosures.was c.args.graph.now (rows_of c.args.rows.now) c.args.root (interval_of c.args.range)
           c.len-2.ensures.graph.ordered c.requires.enclosures.filled (rows_proper c.args.rows.now) c.loop-n.place c.in-Some.n scratch c.visit.new.scratch
           (node_of c.node.result) (interval_of c.get-narrowed.result) c.requires.root c.loop-n.invariant.swept next.below (λ k a b. no_option scratch k (next.between k a b))
           c.node.ensures here (sym c.if-is_empty.ensures) c.visit.ensures.below c.visit.ensures.at c.visit.ensures.above;
@@ -45,7 +45,7 @@ returns-then-is_empty c =
     let here : option_at scratch n ≡ Some (interval_of c.get-narrowed.result) = has_option scratch n next.marked ∙ ap (λ (i : Interval). Some i) (sym c.get-narrowed.ensures) in
     let empty = is_empty (interval_of c.get-narrowed.result) (sym c.if-is_empty.ensures) in
     record {
-      none = λ e. empty_at (narrowed nodes es root range) n (found c.requires.enclosures.space nodes es root range c.len-2.ensures.graph.ordered c.requires.enclosures.filled (rows_proper c.args.rows.now) c.loop-n.place n scratch nothing c.requires.root c.loop-n.invariant.swept next.below
+      none = λ e. empty_at (narrowed nodes es root range) n (found c.requires.enclosures.was nodes es root range c.len-2.ensures.graph.ordered c.requires.enclosures.filled (rows_proper c.args.rows.now) c.loop-n.place n scratch nothing c.requires.root c.loop-n.invariant.swept next.below
           (λ k a b. no_option scratch k (next.between k a b)) (here ∙ ap (λ (i : Interval). Some i) empty));
       some = λ e. cc;
       variables = λ e. cc;
@@ -55,6 +55,6 @@ returns-then-is_empty c =
 pub returns : goal.returns
 returns c =
     let scratch = c.loop-n.scratch in
-    let all = swept_all c.requires.enclosures.space c.args.graph.now (rows_of c.args.rows.now) c.args.root (interval_of c.args.range) c.len-2.ensures.graph.ordered c.requires.enclosures.filled (rows_proper c.args.rows.now) c.loop-n.place scratch c.requires.root c.loop-n.invariant.swept
+    let all = swept_all c.requires.enclosures.was c.args.graph.now (rows_of c.args.rows.now) c.args.root (interval_of c.args.range) c.len-2.ensures.graph.ordered c.requires.enclosures.filled (rows_proper c.args.rows.now) c.loop-n.place scratch c.requires.root c.loop-n.invariant.swept
     (λ k h. no_option scratch k (c.in_default.ensures k h)) in
     record { none = λ e. cc; some = λ e. all.1; variables = λ e. all.0; count = c.loop-n.invariant.count }

@@ -1,12 +1,11 @@
-use Rattle.std.proofs.Common.{inl}
 use Rattle.clause_search.proofs.Propagations.{failed_means, conflict_means, forced, undecided_before}
 use Rattle.clause_search.proofs.trail.Trail.propagate.Goals as goal
 
 pub returns-then-self-clause-says : goal.returns-then-self-clause-says
-returns-then-self-clause-says c = inl (failed_means c.args.cnf.now c.args.self.now c.requires c.if-self.true)
+returns-then-self-clause-says c = failed_means c.args.cnf.now c.args.self.now c.requires c.if-self.true
 
 pub returns-in-Conflict-clause-says : goal.returns-in-Conflict-clause-says
-returns-in-Conflict-clause-says c = inl (conflict_means c.args.cnf.now c.loop-literal.self c.loop-literal.invariant.0 c.in-Conflict.ensures.sees)
+returns-in-Conflict-clause-says c = conflict_means c.args.cnf.now c.loop-literal.self c.loop-literal.invariant.0 c.in-Conflict.ensures.sees
 
 pub returns-then-literal-clause-says : goal.returns-then-literal-clause-says
 returns-then-literal-clause-says c =
