@@ -1,10 +1,8 @@
 -- The next line of one certificate is copied, or ends it.
 use Rattle.std.proofs.Common.{◌≡◌, ℕ, List, ◌∷◌, Option, Some, None, subst}
+use Rattle.cert_join.specs.Gathered.{Passed}
 use Rattle.cert_join.specs.Spot.{Spot, IsBefore, IsFirst, IsReady, line_in}
 use Rattle.cert_join.proofs.Copying.{resized}
-
-abbrev pub Passed : Spot → Spot → Type 0
-Passed s t = (cert l : List ℕ) (ls : List (List ℕ)) → IsBefore cert (l ∷ ls) s → line_in s ≡ Some l → IsBefore cert ls t
 
 module _ (cert : List ℕ) (ls : List (List ℕ)) (s t : Spot) (before : IsBefore cert ls s) (same : t ≡ record s { size = t.size }) where
   -- it is not known yet
