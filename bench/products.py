@@ -38,9 +38,8 @@ def has_power(tree: Tree) -> bool:
     """Whether a factor stands in a row three times or more, or twice behind another one."""
     if isinstance(tree, str):
         return False
-    pairs = zip(tree[1:], tree[2:])
-    rows = tree[:1] == ['*'] and len(tree) > 3 and any(a == b for a, b in pairs)
-    return rows or any(map(has_power, tree))
+    behind = zip(tree[2:], tree[3:])
+    return tree[:1] == ['*'] and any(a == b for a, b in behind) or any(map(has_power, tree))
 
 
 def in_twos(tree: Tree) -> Tree:

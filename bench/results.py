@@ -65,7 +65,7 @@ class Results:
         """Notes the run to which rows are added, beside those before it."""
         for key, value in about.items():
             there = self.about[key].split('; ') if key in self.about else []
-            if value not in there:
+            if value and value not in there:
                 self.about[key] = '; '.join([*there, value])
 
     def write(self) -> None:
