@@ -29,6 +29,7 @@ class Asked:
     program: str
     checker: str
     work: str  # a folder for certificates and scripts that are made
+    commit: str = ''  # of the program, where its folder does not tell
     twin: str = TWIN
     rule: Optional[str] = None
     sets: Optional[str] = None
@@ -54,7 +55,9 @@ class Part:
     def is_due(self, *key: str) -> bool:
         """Whether a row is still to be measured, and there is time for it."""
         row = self.results.find(*key)
-        done = row is not None and (row['load'] != '' or is_over(row))
+        done = row is not None and row['load'] != ''
+        if row is not None and is_over(row) and load() >= self.asked.most_load:
+            done = True  # a time-out beside other work is tried again on an idle machine alone
         return (self.asked.again or not done) and time.monotonic() < self.end
 
     def is_idle(self) -> bool:
@@ -69,13 +72,12 @@ class Part:
     def keep(self, row: Row, load: str = COUNTS) -> None:
         """Keeps a row, with the load at which it was timed, if it was."""
         row['load'] = load
-        self.results.stamp(machine(self.asked.program))
-        self.results.put(row)
+        self.results.put(row, machine(self.asked.program, self.asked.commit))
         print(self.results.name, *(it for it in row.values() if it), file=sys.stderr, flush=True)
 
 
 def is_over(row: Row) -> bool:
-    """Whether a run was ended by the limit of processor seconds, which needs no idle machine."""
+    """Whether a solver gave no answer within the limit of processor seconds, or none at all."""
     return row.get('answer', '') in ('timeout', 'refused')
 
 

@@ -44,29 +44,26 @@ class Results:
     def find(self, *key: str) -> Optional[Row]:
         return self.rows.get(key)
 
-    def put(self, row: Row) -> None:
-        """Adds a row, in the place of one of the same name, and writes the file."""
+    def put(self, row: Row, about: dict[str, str]) -> None:
+        """Adds a row, in the place of one of the same name, and writes the file.
+
+        What `about` tells of the run stands beside what the file tells of those before it."""
         unknown = set(row) - set(self.columns)
         assert not unknown, unknown
         os.makedirs(FOLDER, exist_ok=True)
         folder = os.open(FOLDER, os.O_RDONLY)
         try:
             fcntl.flock(folder, fcntl.LOCK_EX)
-            about = dict(self.about)
             if os.path.exists(self.path):
                 self.read()  # another run may have added rows
-            self.stamp(about)
+            for key, value in about.items():
+                there = self.about.get(key, '').split('; ')
+                if value and value not in there:
+                    self.about[key] = '; '.join([*filter(None, there), value])
             self.rows[self.key(row)] = {it: row.get(it, '') for it in self.columns}
             self.write()
         finally:
             os.close(folder)
-
-    def stamp(self, about: dict[str, str]) -> None:
-        """Notes the run to which rows are added, beside those before it."""
-        for key, value in about.items():
-            there = self.about[key].split('; ') if key in self.about else []
-            if value and value not in there:
-                self.about[key] = '; '.join([*there, value])
 
     def write(self) -> None:
         lines = [f'# {key} {value}' for key, value in self.about.items()]
@@ -82,20 +79,20 @@ class Results:
         return iter([self.rows[it] for it in sorted(self.rows)])
 
 
-def machine(program: str) -> dict[str, str]:
-    """What the file tells of the machine, and of the repository in which the program was built."""
+def machine(program: str, commit: str = '') -> dict[str, str]:
+    """What the file tells of the machine, and of the commit of the program: where none is given,
+    that of the repository in which it stands."""
     processor = platform.machine()
     with open('/proc/cpuinfo', encoding='utf-8') as file:
         names = [it.split(':')[1].strip() for it in file if it.startswith('model name')]
     if names:
         processor = f'{len(names)} x {names[0]}'
     memory = os.sysconf('SC_PAGE_SIZE') * os.sysconf('SC_PHYS_PAGES') / 2**30
-    commit = subprocess.run(
-        ['git', '-C', os.path.dirname(os.path.abspath(program)), 'log', '-1', '--format=%h'],
-        stdout=subprocess.PIPE,
-        stderr=subprocess.DEVNULL,
-        text=True,
-    ).stdout.strip()
+    if not commit:
+        folder = os.path.dirname(os.path.abspath(program))
+        words = ['git', '-C', folder, 'log', '-1', '--format=%h']
+        found = subprocess.run(words, stdout=subprocess.PIPE, stderr=subprocess.DEVNULL, text=True)
+        commit = found.stdout.strip()
     return {
         'date': datetime.datetime.now(datetime.timezone.utc).strftime('%Y-%m-%d'),
         'machine': f'{processor}, {memory:.0f} GB',
