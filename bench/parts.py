@@ -176,18 +176,26 @@ def check(asked: Asked, script: Script, cert: str, answer: str) -> None:
 
 
 def solve_all(asked: Asked, scripts: list[Script]) -> None:
-    """Every solver that is there on every script, the fast ones first."""
-    part, checks, names = Part(asked, SOLVE), Part(asked, CHECK), Part(asked, SETS)
+    """Every solver that is there on every script; those without an answer so far come last."""
+    names = Part(asked, SETS)
     for it in scripts:
         if names.is_due(it.set, it.name):
             names.keep({'set': it.set, 'script': it.name, 'kind': it.kind(), 'status': it.status})
-    known = list(commands(asked, scripts[0], '')) if scripts else []
-    for solver in asked.solvers or ['dpoly', *(it for it in known if it != 'dpoly')]:
-        for script in scripts:
+    part, checks = Part(asked, SOLVE), Part(asked, CHECK)
+    solvers = asked.solvers or (list(commands(asked, scripts[0], '')) if scripts else [])
+    for solver in solvers:
+        for script in sorted(scripts, key=lambda it: is_left_open(it, solver)):
             key = script.set, script.name
-            due = part.is_due(*key, solver) or solver == 'dpoly' and checks.is_due(*key)
+            due = part.is_due(*key, solver)
+            if solver == 'dpoly' and not is_left_open(script, solver):
+                due = due or checks.is_due(*key)
             if asked.only in script.name and due:
                 solve(asked, part, script, solver)
+
+
+def is_left_open(script: Script, solver: str) -> bool:
+    row = SOLVE.find(script.set, script.name, solver)
+    return row is not None and is_over(row)
 
 
 def scripts_part(asked: Asked) -> None:
