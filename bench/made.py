@@ -74,7 +74,7 @@ def many_axes(count: int) -> str:
     """A script over many axes that neither narrowing nor a combination closes."""
     names = [f'x{i}' for i in range(count)]
     text = ''.join(real(it) for it in names)
-    text += '(assert (= (- (* x0 x1 x1) (* x1 x0 x1)) (/ 1 4194304)))\n'
+    text += '(assert (= (- (* x0 x1) (* x1 x0)) (/ 1 900)))\n'
     return text + f'(assert (<= (+ {" ".join(names)}) {count}))\n(check-sat)\n'
 
 
@@ -125,8 +125,8 @@ def memory_row(asked: Asked, part: Part, name: str, words: list[str]) -> None:
     row = {'what': name}
     if words:
         done = run(words, 30 * asked.seconds)
-        if done.status != 0:
-            raise SystemExit(f'release: {name}: status {done.status}')
+        if not done.output.startswith('unknown budget'):
+            raise SystemExit(f'release: {name}: {done.lines()[0]}')
         row['solve mb'] = f'{done.megabytes:.0f}'
     checked = run([asked.checker, path, cert], 30 * asked.seconds)
     if not checked.output.startswith(('open ', 'confirmed ')):

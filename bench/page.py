@@ -156,7 +156,9 @@ def times() -> Table:
             continue
         found = time_ratios(one, two, checked)
         ratios.append(found)
-        plain = [count(two['splits']), seconds(two['seconds'])] if solved(two) else ['open', '']
+        plain = ['', ''] if two is None else ['open', '']
+        if two is not None and solved(two):
+            plain = [count(two['splits']), seconds(two['seconds'])]
         cells = [key[1], count(one['splits']), plain[0], seconds(one['seconds']), plain[1]]
         cells += [shown(found[0]), shown(found[1])]
         cells += [f'{int(checked["bytes"]) / 1000:,.0f}', seconds(checked['seconds'])]

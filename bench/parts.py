@@ -11,6 +11,7 @@ from typing import Iterable, Optional
 from results import Results, Row, machine
 from runs import Run, least, load, run, wait_below
 from sets import Script, others, own
+from terms import has_power, in_squares, parse, spelled
 
 HERE = os.path.dirname(os.path.abspath(__file__))
 TWIN = os.path.join(HERE, 'twin', 'target', 'release', 'twin')
@@ -116,8 +117,20 @@ def commands(asked: Asked, script: Script, cert: str) -> dict[str, list[str]]:
         'cvc5': ['cvc5', script.path],
     }
     if asked.rule is not None:
-        found['rule'] = [asked.rule, script.path, *RULE_FLAGS, *limits]
+        found['rule'] = [asked.rule, with_squares(asked, script), *RULE_FLAGS, *limits]
     return found
+
+
+def with_squares(asked: Asked, script: Script) -> str:
+    """The script with powers as squares of squares, since the plain program reads none."""
+    with open(script.path, encoding='utf-8') as file:
+        trees = parse(file.read())
+    if not any(map(has_power, trees)):
+        return script.path
+    path = asked.file('squares.smt2')
+    with open(path, 'w', encoding='utf-8') as file:
+        file.write('\n'.join(spelled(in_squares(it)) for it in trees) + '\n')
+    return path
 
 
 def splits_of(solver: str, done: Run, cert: str) -> str:

@@ -2,54 +2,15 @@
 right, so that no factor is read as a power."""
 from __future__ import annotations
 
-import re
-from typing import Union
-
 from parts import MOST_SPLITS, SOLVE, Asked, Part, splits_of, verdict
 from results import Results
 from runs import run
 from sets import Script, others, own
+from terms import has_power, in_twos, parse, spelled
 
-Tree = Union[str, list]
 POWERS = Results(
     'powers', ['set', 'script'], ['splits', 'answer in twos', 'splits in twos', 'load']
 )
-
-
-def parse(text: str) -> list[Tree]:
-    text = re.sub(r';[^\n]*', '', text)
-    stack: list[list[Tree]] = [[]]
-    for token in re.findall(r'\(|\)|\|[^|]*\||"[^"]*"|[^\s()]+', text):
-        if token == '(':
-            stack.append([])
-        elif token == ')':
-            done = stack.pop()
-            stack[-1].append(done)
-        else:
-            stack[-1].append(token)
-    return stack[0]
-
-
-def spelled(tree: Tree) -> str:
-    return tree if isinstance(tree, str) else '(' + ' '.join(map(spelled, tree)) + ')'
-
-
-def has_power(tree: Tree) -> bool:
-    """Whether a factor stands in a row three times or more, or twice behind another one."""
-    if isinstance(tree, str):
-        return False
-    behind = zip(tree[2:], tree[3:])
-    return tree[:1] == ['*'] and any(a == b for a, b in behind) or any(map(has_power, tree))
-
-
-def in_twos(tree: Tree) -> Tree:
-    """The same with products of two factors alone, from left to right."""
-    if isinstance(tree, str):
-        return tree
-    tree = [in_twos(it) for it in tree]
-    while tree[:1] == ['*'] and len(tree) > 3:
-        tree = ['*', ['*', tree[1], tree[2]], *tree[3:]]
-    return tree
 
 
 def powers_part(asked: Asked) -> None:
