@@ -73,7 +73,11 @@ def run(
             preexec_fn=begin,
             start_new_session=True,
         )
-        usage, code = reap(child, begun + WALL_FACTOR * limit)
+        try:
+            usage, code = reap(child, begun + WALL_FACTOR * limit)
+        except BaseException:
+            os.killpg(child.pid, signal.SIGKILL)
+            raise
         wall = time.monotonic() - begun
         output.seek(0)
         text = output.read().decode('utf-8', 'replace')
