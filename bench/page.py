@@ -220,17 +220,23 @@ def workers_model() -> Table:
 def minimize() -> Table:
     head = ['goal', 'least value', 'lower', 'upper', 'splits', 's', 's, four workers', 'check s']
     head += ['told, s', 'times']
-    rows, quick = [], 0
-    for row in sorted(GOALS, key=lambda it: -float(it['seconds'] or 0)):
-        if row['seconds'] and float(row['seconds']) < WORTH / 5:
-            quick += 1
+    rows, others = [], []
+    for row in sorted(GOALS, key=lambda it: (-float(it['seconds'] or 0), -int(it['splits'] or 0))):
+        if is_quick(row):
+            others.append(int(row['splits'] or 0))
             continue
         cells = [row['goal'], row['least value'], row['lower'], row['upper'], count(row['splits'])]
         cells += [seconds(row[it]) for it in ('seconds', 'four workers', 'check', 'told')]
         rows.append([*cells, shown(ratio(row['seconds'], row['told']))])
-    if quick:
-        rows.append([f'{quick} others', *4 * [''], f'below {WORTH / 5:g}', *4 * ['']])
+    if others:
+        most = f'{min(others)} to {max(others)}'
+        rows.append([f'{len(others)} others', *3 * [''], most, *5 * ['']])
     return head, rows
+
+
+def is_quick(row: Row) -> bool:
+    """Whether a goal takes little: few splits, where nothing was timed."""
+    return float(row['seconds']) < WORTH / 5 if row['seconds'] else int(row['splits'] or 0) < 30
 
 
 def powers() -> Table:
