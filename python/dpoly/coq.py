@@ -222,6 +222,10 @@ class Printer:
                 return self.comparison(OPPOSITE[tree.value], *tree.parts)
             if tree.value == "=":
                 return self.comparison("<>", *tree.parts)
+        if tree.kind == "applied" and tree.value == "or":
+            return self.joined("/\\", 80, [self.opposite(it) for it in tree.parts])
+        if tree.kind == "applied" and tree.value == "and":
+            return self.joined("->", 99, [*(self.formula(it) for it in tree.parts[:-1]), self.opposite(tree.parts[-1])])
         return self.denied(self.formula(tree))
 
 
