@@ -35,6 +35,7 @@ REWRITING = {'reciprocal': 'y * (2 - x * y) - 1 / x -> - x * ((y - 1 / x) * (y -
 OPEN_UP = '''Ltac open_up := unfold not; intros; repeat match goal with
   | p : bool |- _ => destruct p
   | |- context [if ?c then _ else _] => destruct c
+  | H : _ /\\ _ |- _ => destruct H
   | |- _ /\\ _ => split
   | |- _ -> _ => intros
   end.

@@ -1,0 +1,90 @@
+#!/usr/bin/env python3
+"""By how much certificates shrink by `python3 -m dpoly trim` (docs/COQ.md).
+
+    bench/trim.py DPOLY DPOLY_CHECK FOLDER [--most LINES] [--seconds S] [NAME ..]
+
+Solves the scripts of examples/ and bench/scripts, keeps those that are `unsat`, or have a least value, as NAME.smt2 and NAME.cert in
+FOLDER (where they are not there already), trims each certificate of at most so many lines to NAME.trim, and has DPOLY_CHECK confirm
+both. A line is printed for each: its name, lines before and after, user seconds of trimming, and what the checker says of the two."""
+import argparse
+import os
+import re
+import shutil
+import subprocess
+import sys
+import time
+from typing import Iterator, Optional
+
+TOP = os.path.dirname(os.path.dirname(os.path.abspath(__file__)))
+sys.dont_write_bytecode = True
+sys.path.insert(0, os.path.join(TOP, 'python'))
+from dpoly import trim  # noqa: E402
+from dpoly.plain import checker  # noqa: E402
+
+
+def scripts() -> Iterator[str]:
+    for folder in ('examples', 'bench/scripts'):
+        for name in sorted(os.listdir(os.path.join(TOP, folder))):
+            if name.endswith('.smt2'):
+                yield os.path.join(TOP, folder, name)
+
+
+def read(path: str) -> bytes:
+    with open(path, 'rb') as file:
+        return file.read()
+
+
+def said(command: list, seconds: Optional[float] = None) -> str:
+    try:
+        return subprocess.run(command, capture_output=True, text=True, timeout=seconds).stdout
+    except subprocess.TimeoutExpired:
+        return ''
+
+
+def solve(program: str, script: str, folder: str, name: str, seconds: float) -> bool:
+    """Whether there is a certificate of the script that proves something; it is in the folder then."""
+    kept, certificate = (os.path.join(folder, name + end) for end in ('.smt2', '.cert'))
+    if os.path.exists(certificate):
+        return True
+    command = 'minimize' if b'(minimize ' in read(script) else 'solve'
+    if not re.search('^(unsat|minimum)$', said([program, command, script, certificate], seconds), re.M):
+        if os.path.exists(certificate):
+            os.remove(certificate)
+        return False
+    shutil.copyfile(script, kept)
+    return True
+
+
+def main() -> None:
+    parser = argparse.ArgumentParser(description=__doc__, formatter_class=argparse.RawDescriptionHelpFormatter)
+    for name in ('program', 'checker', 'folder'):
+        parser.add_argument(name)
+    parser.add_argument('--most', type=int, default=20000)
+    parser.add_argument('--seconds', type=float, default=300)
+    parser.add_argument('names', nargs='*')
+    words = parser.parse_intermixed_args()
+    os.makedirs(words.folder, exist_ok=True)
+    for script in scripts():
+        name = os.path.basename(script)[:-5]
+        if words.names and name not in words.names or not solve(os.path.abspath(words.program), script, words.folder, name, words.seconds):
+            continue
+        path, out = (os.path.join(words.folder, name + end) for end in ('.cert', '.trim'))
+        certificate, before = read(path), time.process_time()
+        lines = certificate.count(b'\n')
+        if lines > words.most:
+            print(name, lines, 'not trimmed', sep='\t', flush=True)
+            continue
+        try:
+            found = trim.trim_fully(read(script), certificate)
+        except (trim.Untrimmed, checker.CertificateFault) as fault:
+            print(name, lines, f'not trimmed: {fault}', sep='\t', flush=True)
+            continue
+        seconds = time.process_time() - before
+        with open(out, 'wb') as file:
+            file.write(found)
+        answers = [' '.join(said([os.path.abspath(words.checker), script, it]).split()) for it in (path, out)]
+        verdict = answers[0] if answers[0] == answers[1] else f'DIFFERENT: {answers[0]!r} {answers[1]!r}'
+        print(name, lines, found.count(b'\n'), f'{seconds:.1f}', verdict, sep='\t', flush=True)
+
+
+main()
