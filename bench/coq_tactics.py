@@ -31,6 +31,8 @@ FOLDERS = {
 }
 # What a user of Gappa adds: an error written as it is to be bounded.
 REWRITING = {'reciprocal': 'y * (2 - x * y) - 1 / x -> - x * ((y - 1 / x) * (y - 1 / x)) { x <> 0 };'}
+# What `solve` is told: the reciprocal's bound has less than 2^-14 to spare.
+OPTIONS = {'reciprocal': ['--delta-bits', '20', '--margin-bits', '24']}
 # Hypotheses are introduced, choices and Bool values are taken case by case, conjunctions are split.
 OPEN_UP = '''Ltac open_up := unfold not; intros; repeat match goal with
   | p : bool |- _ => destruct p
@@ -255,7 +257,7 @@ class Measure:
         script, certificate = (os.path.join(self.folder, it) for it in ('goal.smt2', 'goal.cert'))
         with open(script, 'wb') as file:
             file.write(goal.script)
-        search = run([self.program or '', 'solve', script, certificate], self.folder, 600)
+        search = run([self.program or '', 'solve', *OPTIONS.get(goal.name, []), script, certificate], self.folder, 600)
         if not search.said.startswith('unsat'):
             return f'{search.said.split()[0] if search.said else "fails"} | | '
         with open(certificate, 'rb') as file:
