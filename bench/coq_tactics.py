@@ -1,12 +1,15 @@
 #!/usr/bin/env python3
-"""Twenty goals by the tactics that users of Coq have, and by certificates (the table of docs/COQ.md).
+"""Twenty goals by the tactics that users of Coq have, and by certificates (docs/COQ.md).
 
-    bench/coq_tactics.py LIBRARY [--tactics dpoly,interval,nra,psatz,gappa] [--program DPOLY] [--seconds S] [NAME ..]
+    bench/coq_tactics.py LIBRARY [--tactics dpoly,interval,nra,psatz,gappa] [--program DPOLY]
+                         [--seconds S] [NAME ..]
 
-LIBRARY is `coq/theories` after `make -C coq`. The goals are theorems written from scripts, `hypotheses -> conclusion`, where the last
-assertion is denied as the conclusion. A row of the table is printed for each: user seconds without loading Coq's libraries, of the best
-of a tactic's options; `fails`, `> S` where none of them ended in S seconds, `-` where the goal cannot be stated. `dpoly` needs the
-program, `gappa` the program Gappa and its library for Coq, `psatz` csdp."""
+LIBRARY is `coq/theories` after `make -C coq`. The goals are theorems written from scripts,
+`hypotheses -> conclusion`, where the last assertion is denied as the conclusion. A row of the
+table is printed for each: user seconds without loading Coq's libraries, of the best of a tactic's
+options; `fails`, `> S` where one was stopped after S seconds and none proved the goal, `-` where
+the goal cannot be stated. `dpoly` needs the program, `gappa` the program Gappa and its library
+for Coq, `psatz` csdp."""
 import argparse
 import os
 import re
@@ -15,7 +18,7 @@ import subprocess
 import sys
 import tempfile
 from fractions import Fraction
-from typing import Any, Dict, Iterator, List, NamedTuple, Optional
+from typing import Any, Dict, Iterator, List, NamedTuple, Optional, Tuple
 
 TOP = os.path.dirname(os.path.dirname(os.path.abspath(__file__)))
 sys.dont_write_bytecode = True
@@ -25,12 +28,15 @@ from dpoly import coq  # noqa: E402
 TACTICS = 'dpoly', 'interval', 'nra', 'psatz', 'gappa'
 # A folder with scripts, and those of its scripts that are goals.
 FOLDERS = {
-    'examples': ['lyapunov', 'barrier', 'spiral', 'motzkin', 'means', 'parts', 'circles', 'distance', 'saturation', 'harvest'],
-    'bench/scripts': ['polyineq-caprasse-1_16', 'polyineq-delta-32', 'globopt-goldstein-n2-m1', 'hong-n6', 'tangent-d4-e1_128'],
+    'examples': ['lyapunov', 'barrier', 'spiral', 'motzkin', 'means', 'parts', 'circles',
+                 'distance', 'saturation', 'harvest'],
+    'bench/scripts': ['polyineq-caprasse-1_16', 'polyineq-delta-32', 'globopt-goldstein-n2-m1',
+                      'hong-n6', 'tangent-d4-e1_128'],
     'bench/coq_goals': ['schur', 'nesbitt', 'norm', 'chebyshev', 'reciprocal'],
 }
 # What a user of Gappa adds: an error written as it is to be bounded.
-REWRITING = {'reciprocal': 'y * (2 - x * y) - 1 / x -> - x * ((y - 1 / x) * (y - 1 / x)) { x <> 0 };'}
+REWRITING = {'reciprocal': 'y * (2 - x * y) - 1 / x -> - x * ((y - 1 / x) * (y - 1 / x)) '
+                           '{ x <> 0 };'}
 # What `solve` is told: the reciprocal's bound has less than 2^-14 to spare.
 OPTIONS = {'reciprocal': ['--delta-bits', '20', '--margin-bits', '24']}
 # Hypotheses are introduced, choices and Bool values are taken case by case, conjunctions are split.
@@ -41,20 +47,23 @@ OPEN_UP = '''Ltac open_up := unfold not; intros; repeat match goal with
   | |- _ /\\ _ => split
   | |- _ -> _ => intros
   end.
-Ltac one_side := first [apply Rminus_le | apply Rminus_lt | apply Rle_ge, Rminus_le | apply Rlt_gt, Rminus_lt].
+Ltac one_side :=
+  first [apply Rminus_le | apply Rminus_lt | apply Rle_ge, Rminus_le | apply Rlt_gt, Rminus_lt].
 Ltac upwards := first [apply Rle_ge | apply Rlt_gt | idtac].
 '''
+REALS, OPENED = 'From Coq Require Import Reals', 'Local Open Scope R_scope.\n'
 HEADS = {
-    'interval': 'From Coq Require Import Reals.\nFrom Interval Require Import Tactic.\nLocal Open Scope R_scope.\n',
-    'nra': 'From Coq Require Import Reals Lra Psatz.\nLocal Open Scope R_scope.\n',
-    'psatz': 'From Coq Require Import Reals Lra Psatz.\nLocal Open Scope R_scope.\n',
+    'interval': f'{REALS}.\nFrom Interval Require Import Tactic.\n{OPENED}',
+    'nra': f'{REALS} Lra Psatz.\n{OPENED}',
+    'psatz': f'{REALS} Lra Psatz.\n{OPENED}',
     'gappa': 'From Flocq Require Import Core.\nFrom Gappa Require Import Gappa_library.\n',
-    'dpoly': 'From Coq Require Import ZArith NArith Reals List.\nFrom Dpoly Require Import Statement Certificate Big.\n',
+    'dpoly': 'From Coq Require Import ZArith NArith Reals List.\n'
+             'From Dpoly Require Import Statement Certificate Big.\n',
 }
 
 
 class Outcome(NamedTuple):
-    """What came of one attempt: whether the goal was proved, user seconds, whether it was stopped, standard output."""
+    """What came of one attempt; seconds are user seconds."""
 
     is_proved: bool
     seconds: float
@@ -69,13 +78,13 @@ def run(command: List[str], folder: str, seconds: float) -> Outcome:
         resource.setrlimit(resource.RLIMIT_CPU, (int(seconds) + 1, int(seconds) + 2))
 
     before = resource.getrusage(resource.RUSAGE_CHILDREN).ru_utime
-    done = subprocess.run(command, cwd=folder, preexec_fn=limit, stdout=subprocess.PIPE, stderr=subprocess.PIPE, text=True)
+    done = subprocess.run(command, cwd=folder, preexec_fn=limit, capture_output=True, text=True)
     used = resource.getrusage(resource.RUSAGE_CHILDREN).ru_utime - before
     return Outcome(done.returncode == 0, used, done.returncode < 0 or used > seconds, done.stdout)
 
 
 class Goal:
-    """A goal: its theorem, names of its variables, and the trees of its assertions, the last of which is denied."""
+    """A goal: its theorem, its variables, and the trees of its assertions; the last is denied."""
 
     def __init__(self, folder: str, name: str):
         self.name = name
@@ -84,8 +93,10 @@ class Goal:
         [(written, check)] = coq.read_check(self.script, None)
         self.trees = coq.Trees(written, self.script)
         self.assertions = [it.tree for it in self.trees.asserted]
-        self.part = coq.Part(written, check, self.script, None, coq.Options('Big', 'goal', len(self.assertions)))
-        self.reals = [self.part.names[it.name] for it in written.axes if it.sort == 'Real']
+        self.options = coq.Options('Big', 'goal', len(self.assertions))
+        self.part = coq.Part(written, check, self.script, None, self.options)
+        self.names = {it.name: self.part.names[it.name] for it in written.axes}
+        self.reals = [self.names[it.name] for it in written.axes if it.sort == 'Real']
         self.has_bools = len(self.reals) < len(written.axes)
 
     def statement(self) -> str:
@@ -98,10 +109,11 @@ class Goal:
 
     def compares_terms(self) -> bool:
         """Whether a comparison of the conclusion has no number on a side."""
-        return any(not (a.is_number or b.is_number) for a, b in comparisons(self.assertions[-1]))
+        pairs = comparisons(self.assertions[-1])
+        return any(not (a.is_number or b.is_number) for a, b in pairs)
 
 
-def comparisons(tree: Any) -> Iterator[Any]:
+def comparisons(tree: Any) -> Iterator[Tuple[Any, Any]]:
     if tree.kind == 'applied' and tree.value in ('<=', '<', '>=', '>', '='):
         yield from zip(tree.parts, tree.parts[1:])
     elif tree.kind == 'applied':
@@ -111,7 +123,7 @@ def comparisons(tree: Any) -> Iterator[Any]:
 
 # ---------------------------------------------------------------- Gappa
 class Unstated(Exception):
-    """Gappa's language has not what the goal needs."""
+    """Gappa's language lacks what the goal needs."""
 
 
 def value_of(tree: Any) -> Fraction:
@@ -121,7 +133,10 @@ def value_of(tree: Any) -> Fraction:
     if tree.value == '-' and not rest:
         return -first
     for it in rest:
-        first = first + it if tree.value == '+' else first - it if tree.value == '-' else first * it if tree.value == '*' else first / it
+        if tree.value in '+-':
+            first += it if tree.value == '+' else -it
+        else:
+            first *= it if tree.value == '*' else 1 / it
     return first
 
 
@@ -133,7 +148,10 @@ def decimal(value: Fraction) -> str:
 
 
 class GappaText:
-    """Trees in Gappa's language. Strict comparisons are not there, and are read as the others."""
+    """Trees in Gappa's language, which has no strict comparisons: they are read as the others."""
+
+    MIRRORED = {'<': '>', '>': '<', '=': '='}
+    OPPOSITE = {'<=': '>=', '<': '>=', '>=': '<=', '>': '<='}
 
     def __init__(self, names: Dict[str, str]):
         self.names = names
@@ -152,22 +170,29 @@ class GappaText:
             raise Unstated
         return f'(- {parts[0]})' if len(parts) == 1 else f"({f' {tree.value} '.join(parts)})"
 
+    def compared(self, a: Any, b: Any) -> str:
+        """What is compared with a number in a comparison of `a` with `b`."""
+        return self.real(a) if b.is_number else f'{self.real(a)} - {self.real(b)}'
+
     def comparison(self, sign: str, a: Any, b: Any) -> str:
         if a.is_number and not b.is_number:
-            return self.comparison({'<': '>', '>': '<', '=': '='}[sign[0]] + sign[1:], b, a)
-        left, right = (self.real(a), decimal(value_of(b))) if b.is_number else (f'{self.real(a)} - {self.real(b)}', '0')
+            return self.comparison(self.MIRRORED[sign[0]] + sign[1:], b, a)
+        left, right = self.compared(a, b), decimal(value_of(b)) if b.is_number else '0'
         return f'{left} in [{right},{right}]' if sign == '=' else f'{left} {sign[0]}= {right}'
 
     def formula(self, tree: Any) -> str:
         if tree.kind != 'applied':
             raise Unstated
         name, parts = tree.value, tree.parts
-        if name in ('<=', '<') and len(parts) == 3 and parts[0].is_number and parts[2].is_number:
-            return f'{self.real(parts[1])} in [{decimal(value_of(parts[0]))},{decimal(value_of(parts[2]))}]'
+        ends = [parts[0], parts[-1]]
+        if name in ('<=', '<') and len(parts) == 3 and all(it.is_number for it in ends):
+            low, high = (decimal(value_of(it)) for it in ends)
+            return f'{self.real(parts[1])} in [{low},{high}]'
         if name in ('<=', '<', '>=', '>') or name == '=' and not self.is_bool(parts[0]):
             return ' /\\ '.join(self.comparison(name, a, b) for a, b in zip(parts, parts[1:]))
         if name in ('and', 'or'):
-            return '(' + (' /\\ ' if name == 'and' else ' \\/ ').join(self.formula(it) for it in parts) + ')'
+            sign = ' /\\ ' if name == 'and' else ' \\/ '
+            return f'({sign.join(map(self.formula, parts))})'
         raise Unstated
 
     @staticmethod
@@ -175,13 +200,13 @@ class GappaText:
         return tree.kind == 'applied' and tree.value not in ('+', '-', '*', '/')
 
     def denied(self, tree: Any) -> str:
-        opposite = {'<=': '>=', '<': '>=', '>=': '<=', '>': '<='}
-        if tree.kind == 'applied' and tree.value in opposite and len(tree.parts) == 2:
-            return self.comparison(opposite[tree.value], *tree.parts)
+        if tree.kind == 'applied' and tree.value in self.OPPOSITE and len(tree.parts) == 2:
+            return self.comparison(self.OPPOSITE[tree.value], *tree.parts)
         if tree.kind == 'applied' and tree.value == 'or':
-            return '(' + ' /\\ '.join(self.denied(it) for it in tree.parts) + ')'
+            return '(' + ' /\\ '.join(map(self.denied, tree.parts)) + ')'
         if tree.kind == 'applied' and tree.value == 'and':
-            return '(' + ' -> '.join([*(self.formula(it) for it in tree.parts[:-1]), self.denied(tree.parts[-1])]) + ')'
+            *given, last = tree.parts
+            return '(' + ' -> '.join([*map(self.formula, given), self.denied(last)]) + ')'
         return f'not ({self.formula(tree)})'
 
 
@@ -189,54 +214,64 @@ def gappa_texts(goal: Goal) -> Iterator[str]:
     """The goal for Gappa, with each way to take the variables' ranges apart."""
     if goal.has_bools:
         raise Unstated
-    text = GappaText({axis.name: goal.part.names[axis.name] for axis in goal.trees.axes})
+    text = GappaText(goal.names)
     *given, last = goal.assertions
-    statement = '{ ' + ' -> '.join([*(text.formula(it) for it in given), text.denied(last)]) + ' }\n'
-    statement += REWRITING.get(goal.name, '') + '\n'
-    expressions = [text.real(a) if b.is_number else f'{text.real(a)} - {text.real(b)}' for a, b in comparisons(last)]
-    yield statement
+    logic = ' -> '.join([*map(text.formula, given), text.denied(last)])
+    statement = f"{{ {logic} }}\n{REWRITING.get(goal.name, '')}\n"
+    expressions = [text.compared(a, b) for a, b in comparisons(last)]
     ways = [', '.join(goal.reals)]
     if len(goal.reals) <= 2:
-        ways.append(', '.join(f'{it} in {64 if goal.reals[1:] else 4096}' for it in goal.reals))
+        parts = 64 if goal.reals[1:] else 4096
+        ways.append(', '.join(f'{it} in {parts}' for it in goal.reals))
+    yield statement
     for way in ways:
         yield statement + ''.join(f'{it} $ {way};\n' for it in expressions)
 
 
 # ---------------------------------------------------------------- The table
+def calls(tactic: str, goal: Goal) -> Iterator[str]:
+    """The tactic in each way in which a user would try it."""
+    if tactic == 'interval':
+        side = 'one_side' if goal.compares_terms() else 'upwards'
+        options = ', '.join([*(f'i_bisect {it}' for it in goal.reals), 'i_depth 60'])
+        yield f'open_up; {side}; interval with ({options})'
+        for it in goal.reals[:2]:
+            for more in (f'i_taylor {it}', f'i_autodiff {it}'):
+                yield f'open_up; {side}; interval with ({options}, {more})'
+    else:
+        call = {'nra': 'nra', 'psatz': 'psatz R'}[tactic]
+        case_by_case = f'intuition (try discriminate; {call})'
+        yield f'open_up; {case_by_case if goal.has_bools else call}'
+
+
 class Measure:
     """Attempts in a folder of their own."""
 
     def __init__(self, folder: str, library: str, program: Optional[str], seconds: float):
-        self.folder, self.library, self.program, self.limit = folder, os.path.abspath(library), program, seconds
-        self.loading: Dict[str, float] = {}
+        self.folder, self.program, self.limit = folder, program, seconds
+        self.library, self.loading = os.path.abspath(library), {}
+
+    def path(self, name: str, content: bytes = b'') -> str:
+        found = os.path.join(self.folder, name)
+        with open(found, 'wb') as file:
+            file.write(content)
+        return found
 
     def coqc(self, tactic: str, text: str, seconds: float) -> Outcome:
         """Coq on a text, without the seconds that loading takes."""
         if tactic not in self.loading:
             self.loading[tactic] = 0.0
-            self.loading[tactic] = min(self.coqc(tactic, HEADS[tactic], seconds).seconds for _ in range(3))
-        with open(os.path.join(self.folder, 'goal.v'), 'w') as file:
-            file.write(text)
+            heads = [self.coqc(tactic, HEADS[tactic], seconds) for _ in range(3)]
+            self.loading[tactic] = min(it.seconds for it in heads)
         loading = self.loading[tactic]
-        found = run(['coqc', '-q', '-Q', self.library, 'Dpoly', 'goal.v'], self.folder, seconds + loading)
+        command = ['coqc', '-q', '-Q', self.library, 'Dpoly', self.path('goal.v', text.encode())]
+        found = run(command, self.folder, seconds + loading)
         return found._replace(seconds=max(0.0, found.seconds - loading))
-
-    def scripts_of(self, tactic: str, goal: Goal) -> Iterator[str]:
-        """The tactic in each way in which a user would try it."""
-        if tactic == 'interval':
-            bisect = ', '.join(f'i_bisect {it}' for it in goal.reals)
-            more = [f', {option} {it}' for it in goal.reals[:2] for option in ('i_taylor', 'i_autodiff')]
-            for it in ['', *more]:
-                yield f'open_up; {"one_side" if goal.compares_terms() else "upwards"}; interval with ({bisect}{it}, i_depth 60)'
-        else:
-            call = 'nra' if tactic == 'nra' else 'psatz R'
-            yield f'open_up; intuition (try discriminate; {call})' if goal.has_bools else f'open_up; {call}'
 
     def gappa(self, text: str, seconds: float) -> Outcome:
         """Gappa, and Coq on the proof that it writes."""
-        with open(os.path.join(self.folder, 'goal.g'), 'w') as file:
-            file.write(text)
-        found = run(['gappa', '-Bcoq', '-Wno-dichotomy-failure', 'goal.g'], self.folder, seconds)
+        command = ['gappa', '-Bcoq', '-Wno-dichotomy-failure', self.path('goal.g', text.encode())]
+        found = run(command, self.folder, seconds)
         if not found.is_proved:
             return found
         proof = self.coqc('gappa', found.said, seconds)
@@ -244,27 +279,28 @@ class Measure:
 
     def attempts(self, tactic: str, goal: Goal) -> Iterator[Outcome]:
         """Each way to try the tactic, stopped where it takes longer than the best one before."""
-        best = self.limit
-        head = HEADS[tactic] + OPEN_UP + goal.statement() + '\nProof. '
-        for it in gappa_texts(goal) if tactic == 'gappa' else self.scripts_of(tactic, goal):
-            found = self.gappa(it, best) if tactic == 'gappa' else self.coqc(tactic, f'{head}{it}. Qed.\n', best)
+        best, head = self.limit, f'{HEADS[tactic]}{OPEN_UP}{goal.statement()}\nProof. '
+        for it in gappa_texts(goal) if tactic == 'gappa' else calls(tactic, goal):
+            if tactic == 'gappa':
+                found = self.gappa(it, best)
+            else:
+                found = self.coqc(tactic, f'{head}{it}. Qed.\n', best)
             if found.is_proved:
                 best = min(best, found.seconds)
             yield found
 
     def dpoly(self, goal: Goal) -> str:
-        """Seconds of the search and of Coq, and the lines of the certificate."""
-        script, certificate = (os.path.join(self.folder, it) for it in ('goal.smt2', 'goal.cert'))
-        with open(script, 'wb') as file:
-            file.write(goal.script)
-        search = run([self.program or '', 'solve', *OPTIONS.get(goal.name, []), script, certificate], self.folder, 600)
+        """Lines of the certificate, seconds of the search and of Coq."""
+        script, certificate = self.path('goal.smt2', goal.script), self.path('goal.cert')
+        words = ['solve', *OPTIONS.get(goal.name, []), script, certificate]
+        search = run([self.program or 'dpoly', *words], self.folder, 600)
         if not search.said.startswith('unsat'):
-            return f'{search.said.split()[0] if search.said else "fails"} | | '
+            return f"{search.said.split()[0] if search.said else 'fails'} | | "
         with open(certificate, 'rb') as file:
             lines = file.read()
-        theorem = coq.theorem(goal.script, lines, coq.Options('Big', 'goal', len(goal.assertions)))
-        proof = self.coqc('dpoly', theorem, self.limit)
-        return f'{lines.count(10):,} | {search.seconds:.2f} | {proof.seconds:.2f}' if proof.is_proved else f'{lines.count(10):,} | {search.seconds:.2f} | fails'
+        proof = self.coqc('dpoly', coq.theorem(goal.script, lines, goal.options), self.limit)
+        seconds = f'{proof.seconds:.2f}' if proof.is_proved else 'fails'
+        return f'{lines.count(10):,} | {search.seconds:.2f} | {seconds}'
 
     def cell(self, tactic: str, goal: Goal) -> str:
         if tactic == 'dpoly':
@@ -280,21 +316,25 @@ class Measure:
 
 
 def main() -> None:
-    parser = argparse.ArgumentParser(description=__doc__, formatter_class=argparse.RawDescriptionHelpFormatter)
+    parser = argparse.ArgumentParser(
+        description=__doc__, formatter_class=argparse.RawDescriptionHelpFormatter)
     parser.add_argument('library')
     parser.add_argument('--tactics', default=','.join(TACTICS))
     parser.add_argument('--program')
     parser.add_argument('--seconds', type=float, default=30)
     parser.add_argument('names', nargs='*')
     words = parser.parse_intermixed_args()
-    tactics = [it for it in words.tactics.split(',') if it != 'dpoly' or words.program]
-    print('|', ' | '.join(['goal', *('lines | `solve` | `dpoly`' if it == 'dpoly' else f'`{it}`' for it in tactics)]), '|')
+    program = words.program and os.path.abspath(words.program)
+    tactics = [it for it in words.tactics.split(',') if it != 'dpoly' or program]
+    heads = ['lines | `solve` | `dpoly`' if it == 'dpoly' else f'`{it}`' for it in tactics]
+    print('|', ' | '.join(['goal', *heads]), '|')
     with tempfile.TemporaryDirectory() as folder:
-        measure = Measure(folder, words.library, words.program and os.path.abspath(words.program), words.seconds)
+        measure = Measure(folder, words.library, program, words.seconds)
         for place, name in ((place, name) for place, names in FOLDERS.items() for name in names):
             if not words.names or name in words.names:
                 goal = Goal(place, name)
-                print('|', ' | '.join([name, *(measure.cell(it, goal) for it in tactics)]), '|', flush=True)
+                cells = [name, *(measure.cell(it, goal) for it in tactics)]
+                print('|', ' | '.join(cells), '|', flush=True)
 
 
 main()

@@ -3,9 +3,11 @@
 
     bench/trim.py DPOLY DPOLY_CHECK FOLDER [--most LINES] [--seconds S] [NAME ..]
 
-Solves the scripts of examples/ and bench/scripts, keeps those that are `unsat`, or have a least value, as NAME.smt2 and NAME.cert in
-FOLDER (where they are not there already), trims each certificate of at most so many lines to NAME.trim, and has DPOLY_CHECK confirm
-both. A line is printed for each: its name, lines before and after, user seconds of trimming, and what the checker says of the two."""
+Solves the scripts of examples/ and bench/scripts, keeps those that are `unsat`, or have a least
+value, as NAME.smt2 and NAME.cert in FOLDER (where they are not there already), trims each
+certificate of at most so many lines to NAME.trim, and has DPOLY_CHECK confirm both. A line is
+printed for each: its name, lines before and after, processor seconds of trimming, and what the
+checker says of the two."""
 import argparse
 import os
 import re
@@ -13,7 +15,7 @@ import shutil
 import subprocess
 import sys
 import time
-from typing import Iterator, Optional
+from typing import Iterator, List, Optional
 
 TOP = os.path.dirname(os.path.dirname(os.path.abspath(__file__)))
 sys.dont_write_bytecode = True
@@ -34,7 +36,7 @@ def read(path: str) -> bytes:
         return file.read()
 
 
-def said(command: list, seconds: Optional[float] = None) -> str:
+def said(command: List[str], seconds: Optional[float] = None) -> str:
     try:
         return subprocess.run(command, capture_output=True, text=True, timeout=seconds).stdout
     except subprocess.TimeoutExpired:
@@ -47,7 +49,8 @@ def solve(program: str, script: str, folder: str, name: str, seconds: float) -> 
     if os.path.exists(certificate):
         return True
     command = 'minimize' if b'(minimize ' in read(script) else 'solve'
-    if not re.search('^(unsat|minimum)$', said([program, command, script, certificate], seconds), re.M):
+    answer = said([program, command, script, certificate], seconds)
+    if not re.search('^(unsat|minimum)$', answer, re.M):
         if os.path.exists(certificate):
             os.remove(certificate)
         return False
@@ -55,8 +58,26 @@ def solve(program: str, script: str, folder: str, name: str, seconds: float) -> 
     return True
 
 
+def trimmed(checker_program: str, script: str, path: str) -> str:
+    """The row of a certificate behind its number of lines."""
+    certificate, before = read(path), time.process_time()
+    try:
+        found = trim.trim_fully(read(script), certificate)
+    except (trim.Untrimmed, checker.CertificateFault) as fault:
+        return f'not trimmed: {fault}'
+    seconds = time.process_time() - before
+    out = f'{path[:-5]}.trim'
+    with open(out, 'wb') as file:
+        file.write(found)
+    answers = [' '.join(said([checker_program, script, it]).split()) for it in (path, out)]
+    is_same = answers[0] == answers[1]
+    verdict = answers[0] if is_same else f'DIFFERENT: {answers[0]!r} {answers[1]!r}'
+    return f"{found.count(10)}\t{seconds:.1f}\t{verdict}"
+
+
 def main() -> None:
-    parser = argparse.ArgumentParser(description=__doc__, formatter_class=argparse.RawDescriptionHelpFormatter)
+    parser = argparse.ArgumentParser(
+        description=__doc__, formatter_class=argparse.RawDescriptionHelpFormatter)
     for name in ('program', 'checker', 'folder'):
         parser.add_argument(name)
     parser.add_argument('--most', type=int, default=20000)
@@ -64,27 +85,16 @@ def main() -> None:
     parser.add_argument('names', nargs='*')
     words = parser.parse_intermixed_args()
     os.makedirs(words.folder, exist_ok=True)
+    program, confirms = os.path.abspath(words.program), os.path.abspath(words.checker)
     for script in scripts():
         name = os.path.basename(script)[:-5]
-        if words.names and name not in words.names or not solve(os.path.abspath(words.program), script, words.folder, name, words.seconds):
+        if words.names and name not in words.names:
             continue
-        path, out = (os.path.join(words.folder, name + end) for end in ('.cert', '.trim'))
-        certificate, before = read(path), time.process_time()
-        lines = certificate.count(b'\n')
-        if lines > words.most:
-            print(name, lines, 'not trimmed', sep='\t', flush=True)
-            continue
-        try:
-            found = trim.trim_fully(read(script), certificate)
-        except (trim.Untrimmed, checker.CertificateFault) as fault:
-            print(name, lines, f'not trimmed: {fault}', sep='\t', flush=True)
-            continue
-        seconds = time.process_time() - before
-        with open(out, 'wb') as file:
-            file.write(found)
-        answers = [' '.join(said([os.path.abspath(words.checker), script, it]).split()) for it in (path, out)]
-        verdict = answers[0] if answers[0] == answers[1] else f'DIFFERENT: {answers[0]!r} {answers[1]!r}'
-        print(name, lines, found.count(b'\n'), f'{seconds:.1f}', verdict, sep='\t', flush=True)
+        if solve(program, script, words.folder, name, words.seconds):
+            path = os.path.join(words.folder, f'{name}.cert')
+            lines = read(path).count(b'\n')
+            row = trimmed(confirms, script, path) if lines <= words.most else 'not trimmed'
+            print(name, lines, row, sep='\t', flush=True)
 
 
 main()
