@@ -44,7 +44,7 @@ def said(command: List[str], seconds: Optional[float] = None) -> str:
 
 
 def solve(program: str, script: str, folder: str, name: str, seconds: float) -> bool:
-    """Whether there is a certificate of the script that proves something; it is in the folder then."""
+    """Whether the folder has a certificate of the script that proves something."""
     kept, certificate = (os.path.join(folder, name + end) for end in ('.smt2', '.cert'))
     if os.path.exists(certificate):
         return True
