@@ -12,6 +12,7 @@ import re
 import sys
 from copy import copy
 from fractions import Fraction
+from itertools import groupby
 from typing import Any, Dict, Iterator, List, NamedTuple, Optional, Sequence, Tuple
 
 from .plain import checker  # isort: skip
@@ -88,7 +89,7 @@ class Printer:
         if name == "ite":
             a, b = (self.real(it).within(200) for it in parts[1:])
             return Text(f"if {self.condition(parts[0])} then {a} else {b}", 200)
-        texts = [self.real(it) for it in parts]
+        texts = self.factors(parts) if name == "*" else [self.real(it) for it in parts]
         if name == "-" and len(texts) == 1:
             return Text(f"- {texts[0].within(10)}", 35)
         result = texts[0]
@@ -96,6 +97,18 @@ class Printer:
             level = 50 if name in "+-" else 40
             result = Text(f"{result.within(level)} {name} {it.within(level - 1)}", level)
         return result
+
+    def factors(self, parts: Sequence[Any]) -> List[Text]:
+        """The factors of a product. Those that stand several times in a row are a power where docs/FORMATS.md makes them one."""
+        found, has_choice = [], any(it.has_choice for it in parts)
+        for _, row in groupby(parts, lambda it: it.of_class):
+            same = list(row)
+            text = self.real(same[0])
+            if len(same) == 1 or has_choice or same[0].is_number:
+                found += [text] * len(same)
+            else:
+                found.append(Text(f"{text.within(29)} ^ {len(same)}", 30))
+        return found
 
     def trees_digits(self, at: int) -> str:
         found = re.compile(r"[0-9]+(?:\.[0-9]*)?").match(self.trees.script, at)
@@ -209,6 +222,10 @@ class Printer:
                 return self.comparison(OPPOSITE[tree.value], *tree.parts)
             if tree.value == "=":
                 return self.comparison("<>", *tree.parts)
+        if tree.kind == "applied" and tree.value == "or":
+            return self.joined("/\\", 80, [self.opposite(it) for it in tree.parts])
+        if tree.kind == "applied" and tree.value == "and":
+            return self.joined("->", 99, [*(self.formula(it) for it in tree.parts[:-1]), self.opposite(tree.parts[-1])])
         return self.denied(self.formula(tree))
 
 

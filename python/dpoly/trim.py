@@ -4,8 +4,7 @@ A line that narrows is needed where an end that it moves is used below: by a lea
 atoms that have the axis. A mark, a value of a Bool constant and a side of a cut are needed where something below uses them; where a
 child of a `cut`, `flip` or `case` needs nothing of what the line gives it, the child stands in the place of the line. Lines that are
 left compute what they computed, since all ends that they read are as they were. Lemmas that nothing cites are left out as well, and
-the others hold wherever the ends and marks that their trees need are given (as proofs of unsatisfiability are trimmed: Heule,
-Hunt, Wetzler, FMCAD 2013).
+the others hold wherever the ends and marks that their trees need are given.
 """
 from __future__ import annotations
 

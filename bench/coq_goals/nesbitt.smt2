@@ -1,0 +1,10 @@
+; Nesbitt's inequality a / (b + c) + b / (c + a) + c / (a + b) >= 3/2 of positive numbers, here from 1 to 2 and with 1/20 to spare.
+(set-logic QF_NRA)
+(declare-const a Real)
+(declare-const b Real)
+(declare-const c Real)
+(assert (<= 1 a 2))
+(assert (<= 1 b 2))
+(assert (<= 1 c 2))
+(assert (< (+ (/ a (+ b c)) (/ b (+ c a)) (/ c (+ a b))) 1.45))
+(check-sat)
