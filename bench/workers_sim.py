@@ -1,112 +1,120 @@
-#!/usr/bin/env python3
-"""Simulates workers that share one book, and prints how many times as fast as one worker they are.
+"""A model of workers that share one book: how many times as fast as one worker they are.
 
-  workers_sim.py [--inside US] [--turns N] [--handoff US] [--wake US] [--spin US] [--boxes US,US] [--count N]
+Each worker has a processor of its own and works on box after box: some time outside the book, by a
+law of no memory, then `turns` turns at the book of `inside` microseconds each. A worker that finds
+the book taken looks for `spin` microseconds and takes it where it becomes free, which costs
+`handoff` more, since the book's memory comes from another processor. Then it sleeps. The end of a
+turn wakes one that sleeps, which tries again `wake` microseconds later, and sleeps again where the
+book is taken. What is not in the model: stealing, sharing of caches and memory, and few boxes."""
+from __future__ import annotations
 
-Each worker has a processor of its own and works on box after box: some time outside the book, by a law of no memory, then
-`turns` turns at the book of `inside` microseconds each. A worker that finds the book taken looks for `spin` microseconds and
-takes it where it becomes free, which costs `handoff` more, since the book's memory comes from another processor. Then it
-sleeps. The end of a turn wakes one that sleeps, which tries again `wake` microseconds later, and sleeps again where the
-book is taken. What is not in the model: stealing, sharing of caches and memory, and boxes that are few.
-
-docs/PERFORMANCE.md has a table for several lengths of a turn.
-"""
-import argparse
 import heapq
 import random
+from dataclasses import dataclass
 
-WORKERS = [1, 2, 4, 8, 16, 32, 64]
+from parts import Asked, Part
+from results import Results
 
-
-class Book:
-    """The book, and who waits for it."""
-
-    def __init__(self, asked):
-        self.asked = asked
-        self.taken = False
-        self.looking = {}
-        self.asleep = []
+COUNTS = ['8', '16', '32', '64']
+MODEL = Results('workers_model', ['turn, us'], [*COUNTS, 'load'])
 
 
-def simulate(workers, outside, asked, seed):
-    """Microseconds of the clock for `count` boxes."""
-    draw = random.Random(seed)
-    book = Book(asked)
-    events = []
-    order = 0
-    left = asked.count
-    turns = [asked.turns] * workers
-    now = 0.0
+@dataclass
+class Model:
+    """Times in microseconds."""
 
-    def later(after, what, worker):
-        nonlocal order
-        order += 1
-        heapq.heappush(events, (now + after, order, what, worker))
+    inside: float
+    box: float = 50.0  # in all, with its turns
+    turns: int = 1
+    handoff: float = 0.2
+    wake: float = 50.0
+    spin: float = 10.0
+    count: int = 30_000
 
-    def begin(worker):
-        nonlocal left
-        if left > 0:
-            left -= 1
-            turns[worker] = asked.turns
-            later(draw.expovariate(1 / outside), 'asks', worker)
 
-    def take(worker, extra):
-        book.taken = True
-        later(asked.inside + extra, 'ends', worker)
+class Simulation:
+    """Workers, the book that they share, and what happens next."""
 
-    for worker in range(workers):
-        begin(worker)
-    while events:
-        now, place, what, worker = heapq.heappop(events)
-        if what == 'asks':
-            if not book.taken:
-                take(worker, 0)
-            else:
-                later(asked.spin, 'tires', worker)
-                book.looking[worker] = order
-        elif what == 'tires':
-            if book.looking.get(worker) == place:
-                del book.looking[worker]
-                book.asleep.append(worker)
-        elif what == 'tries':
-            if not book.taken:
-                take(worker, asked.handoff)
-            else:
-                book.asleep.append(worker)
+    def __init__(self, workers: int, model: Model, seed: int = 1):
+        self.model = model
+        self.draw = random.Random(seed)
+        self.outside = max(model.box - model.turns * model.inside, 0.001)
+        self.left = model.count
+        self.turns = [model.turns] * workers
+        self.is_taken = False
+        self.looking: dict[int, int] = {}
+        self.asleep: list[int] = []
+        self.events: list[tuple[float, int, str, int]] = []
+        self.now, self.order = 0.0, 0
+
+    def run(self) -> float:
+        """Microseconds of the clock for all boxes."""
+        steps = {'asks': self.asks, 'tires': self.tires, 'tries': self.tries, 'ends': self.ends}
+        for worker in range(len(self.turns)):
+            self.begin(worker)
+        while self.events:
+            self.now, place, what, worker = heapq.heappop(self.events)
+            steps[what](worker, place)
+        return self.now
+
+    def later(self, after: float, what: str, worker: int) -> None:
+        self.order += 1
+        heapq.heappush(self.events, (self.now + after, self.order, what, worker))
+
+    def begin(self, worker: int) -> None:
+        """A worker takes the next box, if there is one."""
+        if self.left > 0:
+            self.left -= 1
+            self.turns[worker] = self.model.turns
+            self.later(self.draw.expovariate(1 / self.outside), 'asks', worker)
+
+    def take(self, worker: int, extra: float) -> None:
+        self.is_taken = True
+        self.later(self.model.inside + extra, 'ends', worker)
+
+    def asks(self, worker: int, _: int) -> None:
+        if self.is_taken:
+            self.later(self.model.spin, 'tires', worker)
+            self.looking[worker] = self.order
         else:
-            book.taken = False
-            turns[worker] -= 1
-            if turns[worker] > 0:
-                later(0, 'asks', worker)
-            else:
-                begin(worker)
-            if book.asleep:
-                later(asked.wake, 'tries', book.asleep.pop(draw.randrange(len(book.asleep))))
-            if book.looking:
-                next_one = draw.choice(sorted(book.looking))
-                del book.looking[next_one]
-                take(next_one, asked.handoff)
-    return now
+            self.take(worker, 0)
+
+    def tires(self, worker: int, place: int) -> None:
+        """A worker that has looked for so long goes to sleep."""
+        if self.looking.get(worker) == place:
+            del self.looking[worker]
+            self.asleep.append(worker)
+
+    def tries(self, worker: int, _: int) -> None:
+        if self.is_taken:
+            self.asleep.append(worker)
+        else:
+            self.take(worker, self.model.handoff)
+
+    def ends(self, worker: int, _: int) -> None:
+        """A turn ends: one that sleeps is woken, and one that looks takes the book."""
+        self.is_taken = False
+        self.turns[worker] -= 1
+        if self.turns[worker] > 0:
+            self.later(0, 'asks', worker)
+        else:
+            self.begin(worker)
+        if self.asleep:
+            woken = self.asleep.pop(self.draw.randrange(len(self.asleep)))
+            self.later(self.model.wake, 'tries', woken)
+        if self.looking:
+            next_one = self.draw.choice(sorted(self.looking))
+            del self.looking[next_one]
+            self.take(next_one, self.model.handoff)
 
 
-def main():
-    parser = argparse.ArgumentParser(usage=__doc__)
-    parser.add_argument('--inside', type=float, default=1.0)
-    parser.add_argument('--turns', type=int, default=1)
-    parser.add_argument('--handoff', type=float, default=0.2)
-    parser.add_argument('--wake', type=float, default=50.0)
-    parser.add_argument('--spin', type=float, default=10.0)
-    parser.add_argument('--boxes', type=lambda it: [float(x) for x in it.split(',')], default=[20.0, 50.0, 200.0, 1000.0])
-    parser.add_argument('--count', type=int, default=100_000)
-    asked = parser.parse_args()
-    print('%d turn(s) of %g us a box, %g us more where the book was taken' % (asked.turns, asked.inside, asked.handoff))
-    print('| us a box | ' + ' | '.join('%d workers' % it for it in WORKERS) + ' |')
-    print('|---' * (len(WORKERS) + 1) + '|')
-    for box in asked.boxes:
-        outside = max(box - asked.turns * asked.inside, 0.001)
-        one = asked.count * box
-        row = [one / simulate(workers, outside, asked, 1) for workers in WORKERS]
-        print('| %g | ' % box + ' | '.join('%.2f' % it for it in row) + ' |', flush=True)
-
-
-main()
+def workers_model_part(asked: Asked) -> None:
+    """More workers than this machine has processors, in a model."""
+    part = Part(asked, MODEL)
+    for inside in (0.4, 0.7, 1.0, 2.0):
+        name = f'{inside:g}'
+        if part.is_due(name):
+            model = Model(inside)
+            alone = model.count * model.box
+            times = {it: f'{alone / Simulation(int(it), model).run():.1f}' for it in COUNTS}
+            part.keep({'turn, us': name, **times})

@@ -13,6 +13,7 @@ pub mod LemmasAll
 pub mod LemmasStart
 pub mod LineKinds
 pub mod Meetings
+pub mod NextLines
 pub mod Numbers
 pub mod Passed
 pub mod Passing

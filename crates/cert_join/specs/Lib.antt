@@ -7,6 +7,7 @@ pub mod Held
 pub mod Joining
 pub mod Kinds
 pub mod LemmasDue
+pub mod NextLine
 pub mod Numbered
 pub mod Spot
 pub mod Weighed

@@ -1,5 +1,5 @@
 -- The numbers that lemmas get, equal states one, in the order in which they come.
-use Rattle.std.specs.Prelude.{◌≡◌, ◌≢◌, ◌⊎◌, ◌≤◌, ℕ, zero, suc, Bool, true, false, cond, List, [], ◌∷◌, ◌++◌, Option, Some, None, Result, Ok, Err, map, take, length, get_or, slice_get, codes}
+use Rattle.std.specs.Prelude.{◌≡◌, ◌≢◌, ◌⊎◌, ◌<◌, ◌≤◌, ℕ, zero, suc, Bool, true, false, cond, List, [], ◌∷◌, ◌++◌, Option, Some, None, Result, Ok, Err, map, take, length, get_or, slice_get, codes}
 use Rattle.std.specs.List.{AllByRecursion}
 use Rattle.std.specs.Option.{option_map}
 use Rattle.std.specs.HashMap.{get}
@@ -13,6 +13,7 @@ use Rattle.cert_read.specs.CertLine.{CertLine, lemma, no_list, tree_word, end_wo
 use Rattle.cert_joined.specs.Covers.{Cover, Lemma, AreAllLemmas, state_lines, lemmas_lines}
 use Rattle.cert_join.specs.declared.numbering.Kind.{Kind}
 use Rattle.cert_join.specs.declared.numbering.Kind.TheVariants.{Lemma as LemmaKind, No, Tree as TreeKind, Other}
+use Rattle.cert_join.specs.declared.numbering.Hashes.{Hashes}
 use Rattle.cert_join.specs.declared.numbering.Known.{Known}
 use Rattle.cert_join.specs.declared.numbering.Numbering.{Numbering}
 use Rattle.cert_join.specs.declared.cursor.Mark.{Mark}
@@ -67,6 +68,14 @@ abbrev pub AllHaveNumbers : List (List ℕ) → List (List ℕ) → List Cover �
 AllHaveNumbers texts [] [] after = after ≡ texts
 AllHaveNumbers texts (ns ∷ numbers) (c ∷ covers) after = (mid : List (List ℕ)) × HaveNumbers texts ns c.lemmas mid × AllHaveNumbers mid numbers covers after
 AllHaveNumbers texts _ _ after = ⊥
+
+-- ---- trees of lemmas, by their hashes
+
+-- What is kept of the hash of a tree: that of a new lemma under its number; of another one, whether it is that of the first.
+pub record Notes (tree : ℕ) (old new : Hashes) : Type 0 where
+  pub kept : (n : ℕ) → old.lemma ≡ Some (n, true) → new.trees.items ≡ old.trees.items ++ (tree ∷ [])
+  pub same : (n : ℕ) → old.lemma ≡ Some (n, false) → new.dropped ≡ false → slice_get old.trees.items n ≡ Some tree
+  pub other : (n : ℕ) → old.lemma ≡ Some (n, false) → slice_get old.trees.items n ≡ Some tree → new.dropped ≡ old.dropped
 
 -- ---- where a certificate is read
 
@@ -182,11 +191,15 @@ pub record EndsPart (old new : Numbering) : Type 0 where
   pub count : new.count ≡ new.known.count
   pub lists : new.numbers.items ≡ old.numbers.items ++ (old.own ∷ [])
 
+-- a line of this kind, which begins no lemma, stands in a state or behind one
+abbrev pub MayStand : Kind → Numbering → Type 0
+MayStand kind n = kind ≢ LemmaKind → n.is_in_state ≡ false → 0 < length n.own.items
+
 -- what is taken of a line: none that may not stand there
 abbrev pub TakesNext : Kind → List ℕ → Numbering → Result (Option Kind) AllocError → Numbering → Type 0
 TakesNext kind line old (Ok (Some TreeKind)) new = (kind ≡ TreeKind) × EndsPart old new
 TakesNext kind line old (Ok (Some found)) new =
-    (kind ≢ TreeKind) × TakesLine kind line old new × (new.known.count ≤ 1048576)
+    (kind ≢ TreeKind) × TakesLine kind line old new × (new.known.count ≤ 1048576) × MayStand kind old
 TakesNext kind line old x new = Unit {0}
 
 -- ---- all certificates

@@ -1,5 +1,5 @@
 // The first five lines of each certificate.
-ghost use Rattle.std.specs.Prelude.{◌≡◌, ◌++◌, ◌∷◌, ◌<◌, ◌^◌, [], ℕ, List, true, false, Some, Ok, OnOk, slice_get, drop, map};
+ghost use Rattle.std.specs.Prelude.{◌≡◌, ◌≢◌, ◌++◌, ◌∷◌, ◌<◌, ◌^◌, [], ℕ, List, true, false, Some, Ok, OnOk, slice_get, drop, map};
 ghost use Rattle.cert_read.specs.CertLine.{cover};
 ghost use Rattle.cert_read.specs.LineText.{line_text};
 ghost use Rattle.cert_joined.specs.Covers.{Cover, AreTextsOf, IsTextOf};
@@ -35,6 +35,7 @@ fn is_alike(kept: &mut Vec<u8>, is_first: bool, line: &[u8]) -> Result<bool, All
     ensures first { is_first ≡ true → OnOk result (kept.new.items ≡ kept.old.items ++ line.now) }
     ensures alike { is_first ≡ false → kept.new.items ≡ kept.old.items }
     ensures same { is_first ≡ false → result ≡ Ok true → line.now ≡ kept.old.items }
+    ensures unlike { result ≡ Ok false → (is_first ≡ false) × (line.now ≢ kept.old.items) }
 {
     if is_first {
         return match kept.extend_from_slice(line) {

@@ -7,10 +7,12 @@ ghost use Rattle.cert_read.specs.CertLine.{cover};
 ghost use Rattle.cert_join.specs.Heads.{all_lines, head_text, AreHeadsRead};
 ghost use Rattle.cert_join.specs.Numbered.{AreNumbered};
 ghost use Rattle.cert_join.specs.Joining.{AreAtNumbers, AreLemmasWritten, HasStepped, IsAt, Within, IsJoinText, IsJoining, IsOver, IsPiece};
+ghost use Rattle.cert_join.specs.NextLine.{CopiesNext, EndsNext};
+ghost use Rattle.cert_join.specs.Spot.{IsBefore};
 ghost use Rattle.cert_join.specs.Written.{text_of};
 
 use crate::cursor::Cursor;
-use crate::heads::Heads;
+use crate::heads::{Heads, append_line};
 use crate::lemmas::Lemmas;
 use crate::line::append_number;
 use crate::numbering::Numbering;
@@ -116,30 +118,43 @@ pub struct Joiner {
     dropped: bool,
 }
 
-// Copies a line of a certificate of a point.
-fn step_of_point(
-    cursors: &mut [Cursor],
-    part: usize,
-    text: &mut Vec<u8>,
-) -> Result<Step, Unjoined> {
-    let Some(cursor) = cursors.get_mut(part) else {
-        return Ok(Step::Over);
-    };
+// Copies the next line of a certificate of a point.
+fn copy_next(cursor: &mut Cursor, part: usize, text: &mut Vec<u8>) -> Result<Step, Unjoined>
+    ensures { (cert : List ℕ) (ls : List (List ℕ)) → IsBefore cert ls cursor.old →
+        CopiesNext cert ls text.old.items result text.new.items cursor.new }
+{
     if !cursor.is_ready() {
         return Ok(Step::Read(part));
     }
     let Some(line) = cursor.line() else {
         return Ok(Step::Over);
     };
-    text.extend_from_slice(line)?;
-    text.push(b'\n')?;
+    match append_line(text, line) {
+        Ok(()) => {}
+        Err(_) => return Err(Unjoined::Memory),
+    }
     cursor.pass();
     Ok(Step::On)
 }
 
+// Copies a line of a certificate of a point.
+fn step_of_point(
+    cursors: &mut [Cursor],
+    part: usize,
+    text: &mut Vec<u8>,
+) -> Result<Step, Unjoined> {
+    match cursors.get_mut(part) {
+        Some(cursor) => copy_next(cursor, part, text),
+        None => Ok(Step::Over),
+    }
+}
+
 // Reads the last line of a certificate, and then that nothing stands behind it, where `is_read` says whether the line
 // was read.
-fn step_to_end(cursor: &mut Cursor, part: usize, is_read: &mut bool) -> Result<Step, Unjoined> {
+fn step_to_end(cursor: &mut Cursor, part: usize, is_read: &mut bool) -> Result<Step, Unjoined>
+    ensures { (cert : List ℕ) (ls : List (List ℕ)) → IsBefore cert ls cursor.old →
+        EndsNext cert ls is_read.old result is_read.new cursor.new }
+{
     if !cursor.is_ready() {
         return Ok(Step::Read(part));
     }

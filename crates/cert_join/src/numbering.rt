@@ -1,12 +1,12 @@
 // The numbers that lemmas have in the joined certificate.
-ghost use Rattle.std.specs.Prelude.{◌≡◌, ◌≢◌, ◌⊎◌, ◌++◌, ◌∷◌, ◌<◌, ◌≤◌, ◌+◌, [], ℕ, List, true, false, None, Some, Ok, IfOk, OnOk, length, map};
+ghost use Rattle.std.specs.Prelude.{◌≡◌, ◌≢◌, ◌⊎◌, ◌++◌, ◌∷◌, ◌<◌, ◌≤◌, ◌+◌, [], ℕ, List, true, false, None, Some, Ok, IfOk, OnOk, length, map, slice_get};
 ghost use Rattle.cert_read.specs.CertLine.{CertLine};
 ghost use Rattle.cert_read.specs.LineText.{line_text};
 ghost use Rattle.cert_joined.specs.Covers.{Cover, AreTextsOf, IsTextOf};
 ghost use Rattle.cert_join.specs.Ahead.{AreBefore};
 ghost use Rattle.cert_join.specs.Spot.{Spot, IsBefore, IsMark, line_in, rewound};
 ghost use Rattle.cert_join.specs.Written.{behind_header};
-ghost use Rattle.cert_join.specs.Numbered.{line_kind, place_of, EndsPart, IsKnown, IsNumbered, IsNumbering, IsReadingPart, ReadsLemmas, ReadsPart, TakesLine, TakesNext, TakesState};
+ghost use Rattle.cert_join.specs.Numbered.{line_kind, place_of, EndsPart, IsKnown, IsNumbered, IsNumbering, IsReadingPart, MayStand, Notes, ReadsLemmas, ReadsPart, TakesLine, TakesNext, TakesState};
 
 use crate::cursor::{Cursor, Mark};
 use crate::heads::append_line;
@@ -106,6 +106,17 @@ struct Hashes {
     dropped: bool,
 }
 
+// Whether the first tree of the lemma with this number has another hash.
+fn is_other(trees: &[u64], number: u32, tree: u64) -> bool
+    ensures same { result ≡ false → slice_get trees.now number ≡ Some tree }
+    ensures other { result ≡ true → slice_get trees.now number ≢ Some tree }
+{
+    match trees.get(number as usize) {
+        Some(first) => *first != tree,
+        None => true,
+    }
+}
+
 impl Hashes {
     fn new(alloc: Global) -> Self {
         Hashes {
@@ -127,17 +138,29 @@ impl Hashes {
         self.tree.write(b"\n");
     }
 
+    // The tree of the lemma has this hash: that of a new one is kept, and another one is compared with its first.
+    fn note(&mut self, tree: u64) -> Result<(), AllocError>
+        ensures { OnOk result (Notes tree self.old self.new) }
+    {
+        match self.lemma {
+            Some((_, true)) => match self.trees.push(tree) {
+                Ok(()) => Ok(()),
+                Err(_) => Err(AllocError),
+            },
+            Some((number, false)) => {
+                self.dropped = self.dropped || is_other(&self.trees, number, tree);
+                Ok(())
+            }
+            None => Ok(()),
+        }
+    }
+
     // The tree of a lemma was read whole.
     fn end(&mut self) -> Result<(), AllocError> {
         let tree = self.tree.finish();
-        match self.lemma {
-            Some((_, true)) => self.trees.push(tree)?,
-            Some((number, false)) => {
-                if self.trees.get(number as usize) != Some(&tree) {
-                    self.dropped = true;
-                }
-            }
-            None => {}
+        match self.note(tree) {
+            Ok(()) => {}
+            Err(error) => return Err(error),
         }
         self.lemma = None;
         self.tree = FoldHasher::default();
@@ -310,6 +333,14 @@ impl Numbering {
         Ok(())
     }
 
+    // Whether a line of this kind may stand here: outside of a state, and before the first lemma, only one that begins a
+    // lemma.
+    fn may_stand(&self, kind: Kind) -> bool
+        ensures { result ≡ true → MayStand kind self.now }
+    {
+        kind == Kind::Lemma || self.is_in_state || !self.own.is_empty()
+    }
+
     // Takes the line that the cursor has, and says what it is.
     fn take_next(&mut self, cursor: &Cursor, count: u32) -> Result<Option<Kind>, AllocError>
         requires { self.old.part < usize.MAX }
@@ -328,6 +359,9 @@ impl Numbering {
                 Ok(()) => Ok(Some(kind)),
                 Err(error) => Err(error),
             };
+        }
+        if !self.may_stand(kind) {
+            return Ok(None);
         }
         match self.take(kind, line) {
             Ok(()) if self.known.count <= MOST_LEMMAS => Ok(Some(kind)),
