@@ -449,6 +449,8 @@ class Terms:
             return self.make('minus', a) if left is None else self.make('constant', -left)
         if sign == '-':
             return self.operation('+', at, a, self.operation('-', at, b))
+        if sign == '/' and not right:
+            raise ScriptFault('DivisorNotConstant' if right is None else 'ZeroDivisor', at)
         if sign == '/':
             return self.operation('*', at, a, self.make('constant', 1 / right))
         if left is not None and right is not None:
@@ -622,7 +624,7 @@ class Problem:
 
     def arithmetic(self, name: str, values: List[Value], at: int) -> Task:
         """A task: the value of an operation on Reals, a tree or a choice."""
-        if name == '/' and not all(isinstance(it, int) for it in values[1:]):
+        if name == '/' and any(map(is_choice, values[1:])):
             raise ScriptFault('DivisorNotConstant', at)
 
         def made(*trees: int) -> int:
@@ -634,9 +636,6 @@ class Problem:
             values = self.terms.powers(values)
         result = values[0]
         for it in values[1:]:
-            if name == '/' and not self.terms.constant(it):
-                is_zero = self.terms.constant(it) == 0
-                raise ScriptFault('ZeroDivisor' if is_zero else 'DivisorNotConstant', at)
             result = yield self.apart(made, 'choice', [result, it])
         return result
 
