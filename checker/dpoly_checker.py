@@ -467,10 +467,11 @@ def number_of_lemmas(values: Values) -> int:
     return values[0]
 
 
-def check_part(problem: Problem, version: int, loosenings: Loosenings, word: str, values: Values,
+def check_part(problem: Problem, version: int, loosenings: Loosenings, first: Tuple[str, Values],
                lines: Lines, kept: Callable[[int], Sequence[State]]) -> Tuple[Optional[Cover], str]:
-    """The cover of a part, None for a point, and the answer; `word` and `values` are its first
-    line, `kept` gives its lemmas."""
+    """The cover of a part, None for a point, and the answer; `first` is its first line, `kept`
+    gives its lemmas."""
+    word, values = first
     if word == 'point':
         Cover(problem, version, *loosenings.ends).read_point(lines)
         return None, f'confirmed delta-sat\ndelta 1b-{loosenings.delta}\n'
@@ -554,8 +555,8 @@ def check_certificate(problems: Sequence[Problem], lines: Lines, bound: Optional
     elif version == 4:
         answer = check_least(problems[0], loosenings, lines)
     else:
-        word, values = lines.header('cover', 'point')
-        answer = check_part(problems[0], version, loosenings, word, values, lines, lambda _: ())[1]
+        first = lines.header('cover', 'point')
+        answer = check_part(problems[0], version, loosenings, first, lines, lambda _: ())[1]
     if lines.take():
         raise CertificateFault('Extra')
     return answer
@@ -572,7 +573,7 @@ def check_several(problems: Sequence[Problem], loosenings: Loosenings, lines: Li
         found = lines.take()
         if not found or found[0] not in ('cover', 'point'):
             raise CertificateFault('Missing')
-        cover, answer = check_part(problem, 3, loosenings, *found, lines,
+        cover, answer = check_part(problem, 3, loosenings, found, lines,
                                    lambda many: kept_lemmas(before, cover, problem, lines, many))
         answers.append(answer)
         before = problem
