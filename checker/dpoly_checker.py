@@ -358,20 +358,6 @@ def shape(word: str, count: int) -> Optional[str]:
     return SHAPES.get(word)
 
 
-def value_of(word: str, kind: str) -> Any:
-    """The value of a word of this kind: a text, None for `none`, a whole number, or a number of the
-    grid as an end."""
-    if kind == 'N':
-        return natural(word)
-    if kind == 'D':
-        return grid_number(word)
-    if kind == 'T':
-        return word
-    if word == 'none':
-        return None
-    return natural(word) if kind == 'B' else grid_number(word)
-
-
 def natural(word: str) -> int:
     number = int(word) if NATURAL(word) else 2**32
     if number >= 2**32:
@@ -390,6 +376,13 @@ def grid_number(word: str) -> End:
     if mantissa % 2 == 0 or not is_on_grid:
         raise CertificateFault('BadNumber')
     return mantissa << exponent + 120
+
+
+# What reads a word of each kind; `none` is None.
+READERS: Dict[str, Callable[[str], Any]] = {
+    'N': natural, 'D': grid_number, 'T': str,
+    'B': lambda word: None if word == 'none' else natural(word),
+    'L': lambda word: None if word == 'none' else grid_number(word)}
 
 
 class Lines:
@@ -416,7 +409,7 @@ class Lines:
             raise CertificateFault('BadLine')
         if kinds == 'T' and rest[0] not in DOMAINS:
             raise CertificateFault('BadLine')
-        return word, [value_of(*it) for it in zip(rest, kinds)]
+        return word, [READERS[kind](it) for kind, it in zip(kinds, rest)]
 
     def due(self, word: str, many: Optional[int] = None, after_tree: bool = False) -> Values:
         """The values of the line that is due: it has this word and so many values (None for any

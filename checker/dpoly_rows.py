@@ -197,6 +197,8 @@ class Combiner:
     """Combinations over the space of some rows. The rows of the middle follow it too."""
     def __init__(self, rows: Rows):
         self.rows, self.middle, self.constants = rows, Rows(rows.graph), rows.graph.constants
+        # The ranges of variables whose middles are in place.
+        self.halved: Dict[int, Interval] = {}
         # The constants of the grid: their difference D is 0, so a product with one adds nothing.
         self.exact = {it for it, (low, high) in self.constants.items() if low == high}
 
@@ -256,7 +258,8 @@ class Combiner:
     def enclose(self, pairs: Sequence[Pair], steps: Sequence[Step]) -> None:
         """Encloses the terms of a combination over the space and over its middle."""
         for number, kind, axis, _ in steps:
-            if kind == 'variable':
+            if kind == 'variable' and self.rows.row[number] is not self.halved.get(number):
+                self.halved[number] = self.rows.row[number]
                 middle = down(sum(self.rows.row[number]), 2)
                 self.middle.set_axis(axis, (middle, middle))
         for it in pairs:
