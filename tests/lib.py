@@ -1,5 +1,6 @@
-"""What the tests in Python have in common: counting what is as wanted, calling programs, files in a folder, and a few scripts.
-The folder of the test that is run is on Python's path, so `import lib` finds it."""
+"""What the tests in Python have in common: counting what is as wanted, calling programs, files in a
+folder, and a few scripts. The folder of the test that is run is on Python's path, so `import lib`
+finds it."""
 import os
 import subprocess
 import sys
@@ -14,9 +15,11 @@ BOX = '(declare-const x Real)\n(assert (<= 0 x 1))\n'
 ROOT = BOX + '(assert (= (* x x) (/ 1 4)))\n(check-sat)\n'
 NO_ROOT = BOX + '(assert (= (* x x) (- 1)))\n(check-sat)\n'
 TWICE = BOX + '(push 1)\n(assert (> x 2))\n(check-sat)\n(pop 1)\n  (check-sat)\n'
-GAP = BOX + '(assert (or (>= x (/ 3 4)) (<= x (/ 1 4))))\n(assert (= (* x x) (/ 1 4)))\n(check-sat)\n'
+GAP = (BOX + '(assert (or (>= x (/ 3 4)) (<= x (/ 1 4))))\n'
+       '(assert (= (* x x) (/ 1 4)))\n(check-sat)\n')
 BEYOND = '(declare-const y Real)\n(assert (> (* y y) 2))\n(check-sat)\n'
-SPREAD = '(declare-const x Real)\n(declare-const y Real)\n%s(assert (= (- (* x y) (* y x)) (/ 1 %d)))\n(check-sat)\n'
+SPREAD = ('(declare-const x Real)\n(declare-const y Real)\n%s'
+          '(assert (= (- (* x y) (* y x)) (/ 1 %d)))\n(check-sat)\n')
 SIDES = '(assert (<= (- (/ 1 2)) x (/ 1 2)))\n(assert (<= (- (/ 1 2)) y (/ 1 2)))\n'
 SQUARES = SPREAD % (SIDES, 8)
 FINE = SPREAD % (SIDES, 512)
@@ -24,7 +27,7 @@ UNBOUNDED = SPREAD % ('', 1)
 HEAD = 'dpoly 2\nmargin 20\ndelta 10\nbound none\n'
 UNSAT = 'unsat\nmargin 1b-20\n'
 PLENTY = '1048576'
-# The words of the lines of a tree that leave two states, one, and none but a state that is not closed.
+# The words of the lines of a tree that leave two states, or one, or a state that is not closed.
 BRANCHES = ('cut', 'flip', 'case')
 STEPS = ('pull', 'push', 'comb', 'unit', 'ban')
 LEAVING = ('open', 'stuck')
@@ -32,10 +35,12 @@ LEAVING = ('open', 'stuck')
 
 def jobs(times, room):
     """Jobs one after the other within so much time: a disjunction for each pair of them."""
-    text = ''.join('(declare-const s%d Real)\n(assert (<= 0 s%d %d))\n' % (k, k, room - time) for k, time in enumerate(times))
+    text = ''.join('(declare-const s%d Real)\n(assert (<= 0 s%d %d))\n' % (k, k, room - time)
+                   for k, time in enumerate(times))
+    apart = '(assert (or (<= (+ s%d %d) s%d) (<= (+ s%d %d) s%d)))\n'
     for i, time in enumerate(times):
         for j in range(i):
-            text += '(assert (or (<= (+ s%d %d) s%d) (<= (+ s%d %d) s%d)))\n' % (i, time, j, j, times[j], i)
+            text += apart % (i, time, j, j, times[j], i)
     return text + '(check-sat)\n'
 
 
@@ -65,8 +70,8 @@ class Fail(Exception):
 
 
 class Tests:
-    """Counts what is as wanted, and tells what is not. Programs are called in `folder` with the environment `env`, or that of
-    the test itself."""
+    """Counts what is as wanted, and tells what is not. Programs are called in `folder` with the
+    environment `env`, or that of the test itself."""
 
     env = None
     seconds = 600  # of a call
@@ -77,7 +82,7 @@ class Tests:
         self.what = ''  # the row
 
     def want(self, what, is_so, said='', most=400):
-        """Counts whether something is so; where it is not, tells what was said, as far as its last characters."""
+        """Counts whether something is so; where it is not, tells the last of what was said."""
         self.count += 1
         if not is_so:
             self.wrong += 1
@@ -87,7 +92,8 @@ class Tests:
 
     def compare(self, what, wanted, found):
         """Counts whether what was found is as wanted."""
-        return self.want(what, wanted == found, '%s, wanted %s' % (repr(found)[:300], repr(wanted)[:300]), 700)
+        said = '%s, wanted %s' % (repr(found)[:300], repr(wanted)[:300])
+        return self.want(what, wanted == found, said, len(said))
 
     def path(self, *names):
         return os.path.join(self.folder, *names)
@@ -112,8 +118,8 @@ class Tests:
 
     def call(self, *words, **how):
         """Exit status and standard output."""
-        usual = {'cwd': self.folder, 'env': self.env, 'stdin': subprocess.DEVNULL, 'stdout': subprocess.PIPE,
-                 'stderr': subprocess.DEVNULL, 'timeout': self.seconds}
+        usual = {'cwd': self.folder, 'env': self.env, 'stdin': subprocess.DEVNULL,
+                 'stdout': subprocess.PIPE, 'stderr': subprocess.DEVNULL, 'timeout': self.seconds}
         done = subprocess.run(words, **{**usual, **how})
         return done.returncode, done.stdout.decode()
 
@@ -125,9 +131,9 @@ class Tests:
 
 def install(*packages):
     """Installs packages of Debian, as root; what fails is seen by what is not there then."""
-    quiet = {'stdout': subprocess.DEVNULL, 'stderr': subprocess.DEVNULL}
+    words = ['apt-get', 'install', '-y', '--no-install-recommends', *packages]
     env = dict(os.environ, DEBIAN_FRONTEND='noninteractive')
-    subprocess.run(['apt-get', 'install', '-y', '--no-install-recommends', *packages], env=env, **quiet)
+    subprocess.run(words, env=env, stdout=subprocess.DEVNULL, stderr=subprocess.DEVNULL)
 
 
 def programs():

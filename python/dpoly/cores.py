@@ -1,4 +1,4 @@
-"""Smaller sets of assertions that still have no point: by what a cover uses, and by solving fewer."""
+"""Smaller sets of assertions that still have no point: by what a cover uses, by solving fewer."""
 from __future__ import annotations
 
 import time
@@ -11,10 +11,12 @@ from .values import Graph
 Item = TypeVar("Item")
 
 
-def shrunk(items: Sequence[Item], is_unsat: Callable[[Sequence[Item], float], bool], seconds: float) -> List[Item]:
-    """A part of the items, in their order, that `is_unsat` confirms, as the whole is known to be: all that can be left out is,
-    in halves, quarters and so on down to one (delta debugging: Zeller, Hildebrandt, IEEE TSE 2002), until so many seconds have
-    passed. `is_unsat` is told how many seconds are left."""
+def shrunk(items: Sequence[Item], is_unsat: Callable[[Sequence[Item], float], bool],
+           seconds: float) -> List[Item]:
+    """A part of the items, in their order, that `is_unsat` confirms, as the whole is known to be:
+    all that can be left out is, in halves, quarters and so on down to one (delta debugging: Zeller,
+    Hildebrandt, IEEE TSE 2002), until so many seconds have passed. `is_unsat` is told how many
+    seconds are left."""
     end, found, size = time.monotonic() + seconds, list(items), len(items)
     while size:
         at = 0
@@ -32,23 +34,27 @@ def shrunk(items: Sequence[Item], is_unsat: Callable[[Sequence[Item], float], bo
 
 
 class Used(NamedTuple):
-    """What a cover uses of the assertions of its script: of each conjunct that it finds false the numbers of the assertions that
-    have it, and the bounds that its declared box needs. The last assertion has the number -1, the one before it -2."""
+    """What a cover uses of the assertions of its script: of each conjunct that it finds false the
+    numbers of the assertions that have it, and the bounds that its declared box needs. The last
+    assertion has the number -1, the one before it -2."""
 
     conjuncts: List[Set[int]]
     bounds: Set[Side]
 
 
-def used_by(script: bytes, certificate: bytes, bound: Optional[int], seconds: float) -> Optional[Used]:
-    """What the cover of a certificate of a script with one check uses; None where that is not found within so many seconds, or
-    the checker in Python, which follows the certificate, is not there."""
+def used_by(script: bytes, certificate: bytes, bound: Optional[int],
+            seconds: float) -> Optional[Used]:
+    """What the cover of a certificate of a script with one check uses; None where that is not found
+    within so many seconds, or the checker in Python, which follows the certificate, is not
+    there."""
     end = time.monotonic() + seconds
     try:
         from . import trim
     except ImportError:
         return None
     lines = trim.checker.Lines(certificate)
-    [version], [margin], [delta], _ = (lines.header(it)[1] for it in ("dpoly", "margin", "delta", "bound"))
+    header = ("dpoly", "margin", "delta", "bound")
+    [version], [margin], [delta], _ = (lines.header(it)[1] for it in header)
     word, values = lines.header("cover", "point")
     [problem] = trim.checker.read_problems(script, bound)
     if word == "point":
@@ -58,9 +64,11 @@ def used_by(script: bytes, certificate: bytes, bound: Optional[int], seconds: fl
         needs = sorted(trim.read_trimmed(cover, lines, values[0], end)[1].needs)
     except trim.Untrimmed:
         return None
-    names = [it.name.encode("latin-1").decode("utf-8", "surrogateescape") for it in problem.names.axes]
+    names = [it.name.encode("latin-1") for it in problem.names.axes]
+    sides = ((kind, names[it].decode("utf-8", "surrogateescape"))
+             for kind, it in needs if kind in ("low", "high"))
     return Used([assertions_with(problem.forms, it) for kind, it in needs if kind == "conjunct"],
-                {(int(kind == "high"), names[it]) for kind, it in needs if kind in ("low", "high")})
+                {(int(kind == "high"), name) for kind, name in sides})
 
 
 def assertions_with(forms: Sequence[Tuple], conjunct: int) -> Set[int]:
@@ -80,8 +88,9 @@ def assertions_with(forms: Sequence[Tuple], conjunct: int) -> Set[int]:
 
 
 def core_of(used: Used, graphs: Sequence[Graph], kept: Set[int]) -> Set[int]:
-    """The numbers, from 0, of assertions that suffice by what a cover uses; `kept` are among them anyway. Each constant that they
-    use has a stated bound on each side on which one of the assertions states one."""
+    """The numbers, from 0, of assertions that suffice by what a cover uses; `kept` are among them
+    anyway. Each constant that they use has a stated bound on each side on which one of the
+    assertions states one."""
     found, stated = set(kept), [stated_bounds(it) for it in graphs]
 
     def take_one_of(choice: Set[int]) -> None:
