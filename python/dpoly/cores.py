@@ -9,6 +9,7 @@ from .ranges import Side, stated_bounds
 from .values import Graph
 
 Item = TypeVar("Item")
+MOST_FOLLOWED = 1 << 25
 
 
 def shrunk(items: Sequence[Item], is_unsat: Callable[[Sequence[Item], float], bool],
@@ -45,9 +46,11 @@ class Used(NamedTuple):
 def used_by(script: bytes, certificate: bytes, bound: Optional[int],
             seconds: float) -> Optional[Used]:
     """What the cover of a certificate of a script with one check uses; None where that is not found
-    within so many seconds, or the checker in Python, which follows the certificate, is not
-    there."""
+    within so many seconds, which a certificate of more than `MOST_FOLLOWED` bytes would take to be
+    read, or where the checker in Python, which follows it, is not there."""
     end = time.monotonic() + seconds
+    if seconds <= 0 or len(certificate) > MOST_FOLLOWED:
+        return None
     try:
         from . import trim
     except ImportError:
