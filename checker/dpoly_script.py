@@ -150,11 +150,6 @@ def is_pair(it: Expression, second: str) -> bool:
     return it.kind == 'list' and re.fullmatch('s' + second, letters(it.value)) is not None
 
 
-def is_literal(it: Expression) -> bool:
-    """Whether an expression is a symbol, or a list of `not` and a symbol."""
-    return it.kind == 'symbol' or is_pair(it, 's') and it.value[0].value == 'not'
-
-
 def steps_of(commands: Sequence[Expression]) -> List[Step]:
     """What the commands do, one step after the other: each has to be of its form, and within the
     limits of levels and checks."""
@@ -165,16 +160,16 @@ def steps_of(commands: Sequence[Expression]) -> List[Step]:
         if fault:
             raise ScriptFault(fault, command.at)
         word, at, rest = command.value[0].value, command.at, command.value[1:]
-        literals = rest[0].value if word == 'check-sat-assuming' else []
-        opened = int(rest[0].value) if word == 'push' else 1 if literals else 0
+        assumed = rest[0].value if word == 'check-sat-assuming' else []
+        opened = int(rest[0].value) if word == 'push' else 1 if assumed else 0
         if levels + opened > MOST:
             raise ScriptFault('TooMany', at, 'Levels')
         if word in ('check-sat', 'check-sat-assuming'):
             checks += 1
             if checks > MOST:
                 raise ScriptFault('TooMany', at, 'Checks')
-            asked = [*(Step('assert', at, [it]) for it in literals), Step('check-sat', at, [])]
-            steps += [Step('push', at, 1), *asked, Step('pop', at, 1)] if literals else asked
+            asked = [*(Step('assert', at, [it]) for it in assumed), Step('check-sat', at, [])]
+            steps += [Step('push', at, 1), *asked, Step('pop', at, 1)] if assumed else asked
         elif word in ('push', 'pop'):
             steps.append(Step(word, at, int(rest[0].value)))
             levels += opened if word == 'push' else -int(rest[0].value)
@@ -204,8 +199,6 @@ def command_fault(command: Expression, has_logic: bool, has_goal: bool,
             return 'BadCommand'
         return None if rest[0].value in ('QF_NRA', 'QF_LRA') else 'WrongLogic'
     if name == 'pop' and rest[0].value > levels:
-        return 'BadCommand'
-    if name == 'check-sat-assuming' and not all(map(is_literal, rest[0].value)):
         return 'BadCommand'
     if name == 'minimize' and has_goal:
         return 'LeftOut'

@@ -280,14 +280,11 @@ class Converter:
         return [line for name, bounds in found.items() for line in bound_texts(spelled(name), bounds)]
 
     def assumed(self, tree: Group) -> List[str]:
-        """A check with assumptions. The program takes names and their negations; of anything else a level is opened."""
         listed = tree.items[1]
         if not isinstance(listed, Group):
             raise fault("the assumptions are a list", listed)
         terms = [self.writer.write(it, "Bool").text for it in listed.items]
-        if all(is_literal(it) for it in listed.items):
-            return [*self.implied(), f"(check-sat-assuming ({' '.join(terms)}))"]
-        return [*self.implied(), "(push 1)", *(f"(assert {it})" for it in terms), "(check-sat)", "(pop 1)"]
+        return [*self.implied(), f"(check-sat-assuming ({' '.join(terms)}))"]
 
     def values(self, tree: Group) -> List[str]:
         listed = tree.items[1]
@@ -384,12 +381,6 @@ def level_count(tree: Group) -> int:
     if not isinstance(token, Token) or token.kind != "number" or not token.text.isdigit() or len(token.text) > 9:
         raise fault(f"{tree.head} has a number of levels", tree)
     return int(token.text)
-
-
-def is_literal(tree: Tree) -> bool:
-    if isinstance(tree, Token):
-        return tree.symbol is not None
-    return len(tree.items) == 2 and tree.head == "not" and isinstance(tree.items[1], Token) and tree.items[1].symbol is not None
 
 
 def name_in(tree: Tree) -> str:

@@ -265,6 +265,10 @@ const STACKED: [(&str, &str); 30] = [
         "(declare-const p Bool)(declare-const q Bool)(assert (=> p q))(assert p)(assert (not q))(check-sat)",
     ),
     (
+        "(declare-const x Real)(assert (<= 0 x 1))(check-sat-assuming ((or (< x 0) (> (* x x) 2))))",
+        "(declare-const x Real)(assert (<= 0 x 1))(assert (or (< x 0) (> (* x x) 2)))(check-sat)",
+    ),
+    (
         "(declare-const x Real)(push 1)(assert (let ((y x)) (and (<= 0 y) (<= y (+ 1 1)))))(check-sat)",
         "(declare-const x Real)(assert (let ((y x)) (and (<= 0 y) (<= y (+ 1 1)))))(check-sat)",
     ),

@@ -176,16 +176,16 @@ fn reads_levels(rt: HostRuntime) {
     }
 }
 
-// An assumption is a level with its literals and a check.
+// Assumptions are a level with their terms and a check.
 #[test]
 fn reads_assumptions_and_values(rt: HostRuntime) {
     let rows = [
         ("(check-sat-assuming ())", Ok(1)),
         ("(check-sat-assuming (p (not q)))", Ok(5)),
-        ("(check-sat-assuming ((not (not p))))", bad(1, 1)),
-        ("(check-sat-assuming ((and p)))", bad(1, 1)),
+        ("(check-sat-assuming ((not (not p))))", Ok(4)),
+        ("(check-sat-assuming ((and p) 1))", Ok(5)),
         ("(check-sat-assuming p)", bad(1, 1)),
-        ("(check-sat-assuming (1))", bad(1, 1)),
+        ("(check-sat-assuming (p) q)", bad(1, 1)),
         ("(get-value (x (+ x 1))) (check-sat)", Ok(2)),
         ("(get-value ())", bad(1, 1)),
         ("(get-value x)", bad(1, 1)),

@@ -192,6 +192,7 @@ fn sees_what_is_in_force(rt: HostRuntime) {
             mismatch(2, 22),
         ),
         ("(check-sat-assuming (p))", unknown(1, 22)),
+        ("(check-sat-assuming (1))", mismatch(1, 22)),
         (
             "(declare-const x Real)\n(check-sat)\n(get-value (x (= x y)))",
             unknown(3, 20),

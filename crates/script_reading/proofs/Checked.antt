@@ -4,7 +4,7 @@ use Rattle.script_model.specs.Sexp.{Place, Sexp, leaf, group, Sexps, none, more,
 use Rattle.script_model.specs.Script.{declare, define, claim, minimize, check, ineffective}
 use Rattle.script_model.specs.Reading.{found}
 use Rattle.std.specs.Str.Parse.{digits_value}
-use Rattle.smt_script.specs.Commands.{Word, sets_logic, informs, echoes, gets_model, gets_values, declares, declares_function, defines, asserts, minimizes, checks, exits, pushes, pops, assumes, drops, restarts, command_words, logics, SortForm, no_sort, other_sort, one_sort, sort_form, Arguments, no_arguments, some_arguments, wrong_arguments, arguments, Parameters, known_parameters, other_parameters, wrong_parameters, parameters, Before, Said, says, fails, one_step, with_logic, is_logic, declaration, definition, checking, with_check, with_goal, with_levels, has_room, most_levels, assumptions, assumed, assuming, are_literals, by_word, by_head, one_command, CommandsRead, steps, command_fault, at_end, no_check, nowhere, joined, next_before, steps_from, steps_of, at_start, bad_command, left_out, too_many_checks, too_many_levels}
+use Rattle.smt_script.specs.Commands.{Word, sets_logic, informs, echoes, gets_model, gets_values, declares, declares_function, defines, asserts, minimizes, checks, exits, pushes, pops, assumes, drops, restarts, command_words, logics, SortForm, no_sort, other_sort, one_sort, sort_form, Arguments, no_arguments, some_arguments, wrong_arguments, arguments, Parameters, known_parameters, other_parameters, wrong_parameters, parameters, Before, Said, says, fails, one_step, with_logic, is_logic, declaration, definition, checking, with_check, with_goal, with_levels, has_room, most_levels, assumptions, assumed, assuming, by_word, by_head, one_command, CommandsRead, steps, command_fault, at_end, no_check, nowhere, joined, next_before, steps_from, steps_of, at_start, bad_command, left_out, too_many_checks, too_many_levels}
 use Rattle.smt_script.specs.Forms.{is_end}
 use Rattle.smt_script.specs.Levels.{Asked, Levels, Step, command, opens, closes, resets, asks_values, after_step, asked_from, checks_of, no_levels}
 use Rattle.script_reading.specs.Session.{is_check}
@@ -68,9 +68,8 @@ counts-assuming : (b : Before) (at : Place) (es : Sexps) → Counts b (assuming 
 counts-assuming b at es =
     let there : has_check (assumed at es) ≡ true = check-behind (opens at 1 ∷ []) (assumptions at es ++ command (check at) ∷ closes at 1 ∷ []) (check-behind (assumptions at es) (command (check at) ∷ closes at 1 ∷ []) refl) in
     counts-cond (is_end es) b (checking b at) _ (counts-checking b at)
-    (counts-cond (are_literals es) b _ (fails bad_command)
     (counts-cond (nat_le (suc b.levels) most_levels) b _ (fails too_many_levels)
-    (counts-cond (has_room b) b (says (with_check b) (assumed at es)) (fails too_many_checks) (inr there) tt) tt) tt)
+    (counts-cond (has_room b) b (says (with_check b) (assumed at es)) (fails too_many_checks) (inr there) tt) tt)
 
 counts-word : (b : Before) (at : Place) (w : Word) (args : Sexps) → Counts b (by_word b at w args)
 counts-word b at sets_logic (more (leaf _ (symbol l)) none) = counts-cond b.logic b (fails bad_command) (with_logic b at (is_logic (found l logics))) tt (counts-logic b at (is_logic (found l logics)))

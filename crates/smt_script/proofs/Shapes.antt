@@ -2,21 +2,11 @@
 use Rattle.std.proofs.Common.{◌≡◌, refl}
 use Rattle.script_model.specs.Sexp.{Place, numeral, decimal, symbol, reserved, string, keyword, Sexp, leaf, group, Sexps, none, more}
 use Rattle.smt_script.specs.Levels.{command, resets}
-use Rattle.smt_script.specs.Commands.{Before, says, one_step, by_word, one_command, sets_logic, echoes, gets_model, gets_values, declares, declares_function, defines, asserts, minimizes, checks, exits, pushes, pops, assumes, drops, restarts, checking, with_end, with_levels, with_nothing, is_negation, parameters}
+use Rattle.smt_script.specs.Commands.{Before, says, one_step, by_word, one_command, sets_logic, echoes, gets_model, gets_values, declares, declares_function, defines, asserts, minimizes, checks, exits, pushes, pops, assumes, drops, restarts, checking, with_end, with_levels, with_nothing, parameters}
 use Rattle.smt_script.specs.Forms.{as_symbol, as_any, as_group, as_numeral, as_string}
-use Rattle.std.specs.Prelude.{Bool, true, false, ◌&&◌, codes}
-use Rattle.std.specs.Str.{bytes_eq}
 use Rattle.script_model.specs.Script.{ineffective}
 use Rattle.smt_script.specs.Run.{by_first}
-use Rattle.smt_script.specs.Shapes.{at_last, declares_name, declares_function_name, defines_name, asserts_term, minimizes_term, sets_name, echoes_text, gets_terms, pushes_levels, pops_levels, assumes_literals, negates_name, shape_of, with_shape}
-
-and_true : (b : Bool) → (b && true) ≡ b
-and_true true = refl
-and_true false = refl
-
-and_false : (b : Bool) → (b && false) ≡ false
-and_false true = refl
-and_false false = refl
+use Rattle.smt_script.specs.Shapes.{at_last, declares_name, declares_function_name, defines_name, asserts_term, minimizes_term, sets_name, echoes_text, gets_terms, pushes_levels, pops_levels, assumes_terms, shape_of, with_shape}
 
 pub by_declares : (b : Before) (at : Place) (args : Sexps) → declares_name b at (as_symbol args) ≡ by_word b at declares args
 by_declares b at none = refl
@@ -134,7 +124,7 @@ by_gets_values b at (more (group p none) (more e rest)) = refl
 by_gets_values b at (more (group p (more t ts)) none) = refl
 by_gets_values b at (more (group p (more t ts)) (more e rest)) = refl
 
-pub by_assumes : (b : Before) (at : Place) (args : Sexps) → assumes_literals b at (as_group args) ≡ by_word b at assumes args
+pub by_assumes : (b : Before) (at : Place) (args : Sexps) → assumes_terms b at (as_group args) ≡ by_word b at assumes args
 by_assumes b at none = refl
 by_assumes b at (more (leaf p l) rest) = refl
 by_assumes b at (more (group p es) none) = refl
@@ -159,26 +149,6 @@ by_drops b at (more e rest) = refl
 pub by_restarts : (b : Before) (at : Place) (args : Sexps) → at_last args (says (with_nothing b) (one_step (resets at))) ≡ by_word b at restarts args
 by_restarts b at none = refl
 by_restarts b at (more e rest) = refl
-
--- ---- literals
-
-pub by_negation : (items : Sexps) → negates_name (as_symbol items) ≡ is_negation items
-by_negation none = refl
-by_negation (more (group p items) rest) = refl
-by_negation (more (leaf p (numeral d)) rest) = refl
-by_negation (more (leaf p (decimal d f)) rest) = refl
-by_negation (more (leaf p (reserved w)) rest) = refl
-by_negation (more (leaf p (string t)) rest) = refl
-by_negation (more (leaf p (keyword k)) rest) = refl
-by_negation (more (leaf p (symbol f)) none) = refl
-by_negation (more (leaf p (symbol f)) (more (group q items) rest)) = refl
-by_negation (more (leaf p (symbol f)) (more (leaf q (numeral d)) rest)) = refl
-by_negation (more (leaf p (symbol f)) (more (leaf q (decimal d g)) rest)) = refl
-by_negation (more (leaf p (symbol f)) (more (leaf q (reserved w)) rest)) = refl
-by_negation (more (leaf p (symbol f)) (more (leaf q (string t)) rest)) = refl
-by_negation (more (leaf p (symbol f)) (more (leaf q (keyword k)) rest)) = refl
-by_negation (more (leaf p (symbol f)) (more (leaf q (symbol x)) none)) = and_true (bytes_eq f (codes "not"))
-by_negation (more (leaf p (symbol f)) (more (leaf q (symbol x)) (more e rest))) = and_false (bytes_eq f (codes "not"))
 
 pub by_one : (b : Before) (at : Place) (items : Sexps) → by_first b at (as_symbol items) ≡ one_command b (group at items)
 by_one b at none = refl

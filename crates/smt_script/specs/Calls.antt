@@ -12,7 +12,7 @@ use Rattle.smt_script.specs.Commands.{Said, assumed, by_word, command_words, one
 use Rattle.smt_script.specs.Levels as levels
 use Rattle.smt_script.specs.Forms.{as_any, as_group, as_numeral, as_string, as_symbol}
 use Rattle.smt_script.specs.Run.{GivesNext, before_of}
-use Rattle.smt_script.specs.Shapes.{asserts_term, assumes_literals, at_last, declares_function_name, declares_name, defines_name, echoes_text, gets_terms, minimizes_term, pops_levels, pushes_levels, sets_name}
+use Rattle.smt_script.specs.Shapes.{asserts_term, assumes_terms, at_last, declares_function_name, declares_name, defines_name, echoes_text, gets_terms, minimizes_term, pops_levels, pushes_levels, sets_name}
 use Rattle.smt_script.specs.CommandAnswers.{IsCommandAnswer, said_fault}
 use Rattle.smt_script.specs.Views.{command_of, step_of, word_of}
 use Rattle.smt_script.specs.declared.command.Command.{Command}
@@ -93,7 +93,7 @@ abbrev pub check_said : Sexps → Before → Place → ℕ → Said
 check_said s before place at = at_last (rest_of s at) (defined.checking (before_of before) (place_of place))
 
 abbrev pub assumptions_said : Sexps → Before → Place → ℕ → Said
-assumptions_said s before place at = assumes_literals (before_of before) (place_of place) (as_group (rest_of s at))
+assumptions_said s before place at = assumes_terms (before_of before) (place_of place) (as_group (rest_of s at))
 
 -- nothing is in force after it
 abbrev pub reset_said : Sexps → Before → Place → ℕ → Said

@@ -1,6 +1,5 @@
 -- The commands of a script's expressions, and their first fault.
-use Rattle.std.specs.Prelude.{ℕ, suc, List, [], ◌∷◌, ◌++◌, ◌+◌, ◌-◌, Bool, true, false, ◌&&◌, cond, Option, Some, None, nat_le, codes}
-use Rattle.std.specs.Str.{bytes_eq}
+use Rattle.std.specs.Prelude.{ℕ, suc, List, [], ◌∷◌, ◌++◌, ◌+◌, ◌-◌, Bool, true, false, cond, Option, Some, None, nat_le, codes}
 use Rattle.std.specs.Str.Parse.{digits_value}
 use Rattle.dyadic.specs.Point.{Sort, real_sort, bool_sort}
 use Rattle.script_model.specs.Sexp.{Place, place_of, symbol, numeral, string, Sexp, leaf, group, Sexps, none, more}
@@ -173,36 +172,20 @@ popping b at n = cond (nat_le n b.levels) (says (with_levels b (b.levels - n)) (
 abbrev pub checking : Before → Place → Said
 checking b at = cond (has_room b) (says (with_check b) (one_step (command (check at)))) (fails too_many_checks)
 
--- `not` and a symbol
-abbrev pub is_negation : Sexps → Bool
-is_negation (more (leaf _ (symbol f)) (more (leaf _ (symbol x)) none)) = bytes_eq f (codes "not")
-is_negation es = false
-
--- a symbol, or `not` of one
-abbrev pub is_literal : Sexp → Bool
-is_literal (leaf _ (symbol x)) = true
-is_literal (leaf _ l) = false
-is_literal (group _ es) = is_negation es
-
-abbrev pub are_literals : Sexps → Bool
-are_literals none = true
-are_literals (more e rest) = is_literal e && are_literals rest
-
 abbrev pub assumptions : Place → Sexps → List Step
 assumptions at none = []
 assumptions at (more e rest) = command (claim at e) ∷ assumptions at rest
 
--- a level with an assertion of each literal and a check, which is closed again
+-- a level with an assertion of each term and a check, which is closed again
 abbrev pub assumed : Place → Sexps → List Step
 assumed at es = (opens at 1 ∷ []) ++ assumptions at es ++ (command (check at) ∷ closes at 1 ∷ [])
 
--- without literals a plain check
+-- without terms a plain check
 abbrev pub assuming : Before → Place → Sexps → Said
-assuming b at es = cond (is_end es) (checking b at) (cond (are_literals es)
+assuming b at es = cond (is_end es) (checking b at)
     (cond (nat_le (suc b.levels) most_levels)
     (cond (has_room b) (says (with_check b) (assumed at es)) (fails too_many_checks))
     (fails too_many_levels))
-    (fails bad_command))
 
 -- the command of this word
 abbrev pub by_word : Before → Place → Word → Sexps → Said

@@ -1,6 +1,5 @@
 -- The commands, one part of their form after the other.
-use Rattle.std.specs.Prelude.{ℕ, List, cond, Bool, false, Option, Some, None, ◌&&◌, codes}
-use Rattle.std.specs.Str.{bytes_eq}
+use Rattle.std.specs.Prelude.{ℕ, List, cond, Option, Some, None}
 use Rattle.std.specs.Str.Parse.{digits_value}
 use Rattle.script_model.specs.Sexp.{Place, Sexp, leaf, group, Sexps, none, more}
 use Rattle.script_model.specs.Script.{claim, ineffective}
@@ -84,19 +83,10 @@ abbrev pub pops_levels : Before → Place → Option (List ℕ × Sexps) → Sai
 pops_levels b at None = fails bad_command
 pops_levels b at (Some (digits, rest)) = at_last rest (popping b at (digits_value 10 digits))
 
--- literals
-abbrev pub assumes_literals : Before → Place → Option (Sexps × Sexps) → Said
-assumes_literals b at None = fails bad_command
-assumes_literals b at (Some (es, rest)) = at_last rest (assuming b at es)
-
--- `not`, a symbol, and nothing more
-abbrev pub negates : List ℕ → Option (Place × List ℕ × Sexps) → Bool
-negates f None = false
-negates f (Some (at, x, rest)) = bytes_eq f (codes "not") && is_end rest
-
-abbrev pub negates_name : Option (Place × List ℕ × Sexps) → Bool
-negates_name None = false
-negates_name (Some (at, f, rest)) = negates f (as_symbol rest)
+-- terms to be assumed
+abbrev pub assumes_terms : Before → Place → Option (Sexps × Sexps) → Said
+assumes_terms b at None = fails bad_command
+assumes_terms b at (Some (es, rest)) = at_last rest (assuming b at es)
 
 -- ---- parameters
 

@@ -1,17 +1,15 @@
 // The commands that open and close levels, ask for values and check.
 ghost use Rattle.std.specs.Prelude.{◌≡◌, ◌^◌, min, OnOk};
 ghost use Rattle.std.specs.Str.Parse.{digits_value};
-ghost use Rattle.smt_sexp.specs.Arena.{expression_at, rest_of};
 ghost use Rattle.smt_script.specs.Calls.{Appends, GivesFound, assumptions_said, check_said, pop_said, push_said, reset_said, values_said};
-ghost use Rattle.smt_script.specs.Commands.{are_literals, is_literal, is_negation};
 ghost use Rattle.smt_script.specs.declared.found.Found.TheVariants.{Assumed};
 
 use crate::command::{Command, Step};
-use crate::forms::{any, ends, group, numeral, symbol};
+use crate::forms::{any, ends, group, numeral};
 use crate::found::{Before, Found};
 use crate::reading::{bad_command, too_many};
 use script_fault::{Limit, MOST_CHECKS, MOST_LEVELS, Place, ReadError};
-use smt_sexp::{Leaf, Seen, Sexps};
+use smt_sexp::Sexps;
 use std::alloc::AllocError;
 
 // The first number that is no number of levels.
@@ -139,45 +137,7 @@ pub(crate) fn check(
     Ok((next, Found::One(Step::Command(Command::Check(place)))))
 }
 
-// Whether a group negates a symbol.
-fn is_negation(sexps: &Sexps, inside: usize) -> bool
-    ensures { result ≡ is_negation (rest_of sexps.now inside) }
-{
-    let Some((_, name, at)) = symbol(sexps, inside) else {
-        return false;
-    };
-    let Some((_, _, at)) = symbol(sexps, at) else {
-        return false;
-    };
-    name.as_slice() == b"not".as_slice() && ends(sexps, at)
-}
-
-// Whether a symbol or its negation stands at a place.
-fn is_literal(sexps: &Sexps, at: usize) -> bool
-    ensures { result ≡ is_literal (expression_at sexps.now at) }
-{
-    match sexps.look(at) {
-        Seen::Leaf(_, Leaf::Symbol(_), _) => true,
-        Seen::Group(_, inside, _) => is_negation(sexps, inside),
-        _ => false,
-    }
-}
-
-// Whether symbols and negations of such stand from a place on.
-fn are_literals(sexps: &Sexps, start: usize) -> bool
-    ensures { result ≡ are_literals (rest_of sexps.now start) }
-{
-    let mut at = start;
-    while let Some(after) = any(sexps, at) {
-        if !is_literal(sexps, at) {
-            return false;
-        }
-        at = after;
-    }
-    true
-}
-
-/// A check under assumptions, which opens a level of its own; without any it is a plain check.
+/// A check under assumptions, terms of the sort Bool, which opens a level of its own; without any it is a plain check.
 pub(crate) fn assume(
     sexps: &Sexps,
     before: Before,
@@ -194,9 +154,6 @@ pub(crate) fn assume(
     }
     if ends(sexps, inside) {
         return check(sexps, before, place, inside);
-    }
-    if !are_literals(sexps, inside) {
-        return Err(bad_command(place));
     }
     if before.levels as usize >= MOST_LEVELS {
         return Err(too_many(place, Limit::Levels));
