@@ -286,7 +286,7 @@ module _ (m : Fraction) (point : List Coordinate) where
   gathered-numbers p f {vs} g (more {q = r} {t = t} {qs = qs} {us = us} k rest) =
       let n = are-fractions (numbers-of g) in let i = product-is qs (are-fractions rest) in let j = product-fraction _ _ k.one f in
       let b = refactored (product_of r (product_of g.first (product g.values))) (product_of r p) (beside (term t) vs)
-          (product-fraction _ _ k.one (product-fraction _ _ n.0 (product-is g.values n.1))) (product_same (≈_refl r) g.equal) (beside-numbers r t k (numbers-of g)) in
+      (product-fraction _ _ k.one (product-fraction _ _ n.0 (product-is g.values n.1))) (product_same (≈_refl r) g.equal) (beside-numbers r t k (numbers-of g)) in
       refactored (product_of (product_of r p) (product qs)) (product_of p (product_of r (product qs))) (gathered_with (beside (term t) vs) us)
       (product-fraction _ _ j i) (passed r p (product qs)) (gathered-numbers (product_of r p) j b rest)
 
