@@ -1,7 +1,6 @@
 """Expressions of scripts, and their products written in other ways."""
 from __future__ import annotations
 
-import itertools
 import re
 from typing import Union
 
@@ -27,11 +26,11 @@ def spelled(tree: Tree) -> str:
 
 
 def has_power(tree: Tree) -> bool:
-    """Whether a factor stands in a row three times or more, or twice behind another one."""
+    """Whether a factor stands three times or more, or twice but not as the first two."""
     if isinstance(tree, str):
         return False
-    behind = zip(tree[2:], tree[3:])
-    return tree[:1] == ['*'] and any(a == b for a, b in behind) or any(map(has_power, tree))
+    behind = range(3, len(tree) if tree[:1] == ['*'] else 0)
+    return any(tree[it] in tree[1:it] for it in behind) or any(map(has_power, tree))
 
 
 def in_twos(tree: Tree) -> Tree:
@@ -51,7 +50,9 @@ def in_squares(tree: Tree) -> Tree:
     tree = [in_squares(it) for it in tree]
     if tree[:1] != ['*']:
         return tree
-    factors = [power(it, len(list(row))) for it, row in itertools.groupby(tree[1:])]
+    texts = [spelled(it) for it in tree[1:]]
+    firsts = [at for at, it in enumerate(texts) if it not in texts[:at]]
+    factors = [power(tree[1 + at], texts.count(texts[at])) for at in firsts]
     return ['*', *factors] if len(factors) > 1 else factors[0]
 
 

@@ -3,8 +3,8 @@ and sorts, terms and forms."""
 from __future__ import annotations
 
 import re
+from collections import Counter
 from fractions import Fraction
-from itertools import groupby
 from typing import (Any, Callable, Dict, Generator, Iterable, List, NamedTuple, Optional, Sequence,
                     Tuple, Union)
 
@@ -466,13 +466,15 @@ class Terms:
         return self.make('times', factor, square) if times % 2 else square
 
     def powers(self, factors: Sequence[int]) -> List[int]:
-        """The trees of a product, each that stands several times in a row as one power; a constant
-        is no factor of a power."""
+        """The trees of a product, each that stands several times as one power where the first of
+        it stands; a constant is no factor of a power."""
+        often = Counter(factors)
         found: List[int] = []
-        for tree, row in groupby(factors):
-            times = len(list(row))
-            is_factor = self.constant(tree) is None
-            found += [self.power(tree, times)] if is_factor else [tree] * times
+        for tree in factors:
+            if self.constant(tree) is not None:
+                found.append(tree)
+            elif tree in often:
+                found.append(self.power(tree, often.pop(tree)))
         return found
 
     def below(self, term: int) -> List[int]:

@@ -10,9 +10,9 @@ from __future__ import annotations
 import os
 import re
 import sys
+from collections import Counter
 from copy import copy
 from fractions import Fraction
-from itertools import groupby
 from typing import Any, Dict, Iterator, List, NamedTuple, Optional, Sequence, Tuple
 
 from .plain import checker  # isort: skip
@@ -99,15 +99,14 @@ class Printer:
         return result
 
     def factors(self, parts: Sequence[Any]) -> List[Text]:
-        """The factors of a product. Those that stand several times in a row are a power where docs/FORMATS.md makes them one."""
-        found, has_choice = [], any(it.has_choice for it in parts)
-        for _, row in groupby(parts, lambda it: it.of_class):
-            same = list(row)
-            text = self.real(same[0])
-            if len(same) == 1 or has_choice or same[0].is_number:
-                found += [text] * len(same)
-            else:
-                found.append(Text(f"{text.within(29)} ^ {len(same)}", 30))
+        """The factors of a product. One that stands several times is a power where docs/FORMATS.md makes it one."""
+        found, has_choice, often = [], any(it.has_choice for it in parts), Counter(it.of_class for it in parts)
+        for it in parts:
+            if has_choice or it.is_number:
+                found.append(self.real(it))
+            elif it.of_class in often:
+                times, text = often.pop(it.of_class), self.real(it)
+                found.append(text if times == 1 else Text(f"{text.within(29)} ^ {times}", 30))
         return found
 
     def trees_digits(self, at: int) -> str:

@@ -52,15 +52,20 @@ square_atoms : atoms "(declare-const x Real)\n(assert (<= 0 x 1))\n(assert (= (*
 unfolding Rattle.dyadic.specs.Fraction.negated Rattle.dyadic.specs.Fraction.sum_of Rattle.dyadic.specs.Fraction.product_of Rattle.dyadic.specs.Fraction.quotient_of Rattle.dyadic.specs.Fraction.at_most
 square_atoms = refl
 
--- powers: the fourth is the square of a square, the fifth the variable times that; what stands between keeps factors apart
+-- powers: the fourth is the square of a square; equal factors stand together where the first of them stands, and constants where they stood
 fourth_atoms : atoms "(declare-const x Real)\n(assert (<= 0 x 1))\n(assert (= (* x x x x) (- 1)))" ≡ bounded ((add (square (square x)) (number 1), eq) ∷ [])
 unfolding Rattle.dyadic.specs.Fraction.negated Rattle.dyadic.specs.Fraction.sum_of Rattle.dyadic.specs.Fraction.product_of Rattle.dyadic.specs.Fraction.quotient_of Rattle.dyadic.specs.Fraction.at_most
 fourth_atoms = refl
 
-fifth_atoms : atoms "(declare-const x Real)\n(assert (<= 0 x 1))\n(assert (= (* 2 3 x x x x x 2 2 x) (- 1)))" ≡
-    bounded ((add (multiply (multiply (multiply (multiply (number 6) (multiply x (square (square x)))) (number 2)) (number 2)) x) (number 1), eq) ∷ [])
+fifth_atoms : atoms "(declare-const x Real)\n(assert (<= 0 x 1))\n(assert (= (* 2 3 x x x x 2 2 x) (- 1)))" ≡
+    bounded ((add (multiply (multiply (multiply (number 6) (multiply x (square (square x)))) (number 2)) (number 2)) (number 1), eq) ∷ [])
 unfolding Rattle.dyadic.specs.Fraction.negated Rattle.dyadic.specs.Fraction.sum_of Rattle.dyadic.specs.Fraction.product_of Rattle.dyadic.specs.Fraction.quotient_of Rattle.dyadic.specs.Fraction.at_most
 fifth_atoms = refl
+
+apart_atoms : atoms "(declare-const x Real)\n(assert (<= 0 x 1))\n(assert (= (* x (+ x 2) 3 x (+ x 2) (* x x)) (- 1)))" ≡
+    bounded ((add (multiply (multiply (multiply (square x) (square (add x (number 2)))) (number 3)) (square x)) (number 1), eq) ∷ [])
+unfolding Rattle.dyadic.specs.Fraction.negated Rattle.dyadic.specs.Fraction.sum_of Rattle.dyadic.specs.Fraction.product_of Rattle.dyadic.specs.Fraction.quotient_of Rattle.dyadic.specs.Fraction.at_most
+apart_atoms = refl
 
 sixth_atoms : atoms "(declare-const x Real)\n(assert (<= 0 x 1))\n(assert (= (* (- x) (- x) (- x) (- x) (- x) (- x)) (- 1)))" ≡
     bounded ((add (square (multiply (negate x) (square (negate x)))) (number 1), eq) ∷ [])

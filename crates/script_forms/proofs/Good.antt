@@ -14,7 +14,7 @@ use Rattle.poly_graph.specs.Term.{Term, constant, multiply, square, Atom}
 use Rattle.poly_graph.specs.Form.{Form, Forms, yes_form, no_form, atom_is, bool_is, all_form, any_form, no_forms, more_forms, form_atoms, forms_atoms, form_map, forms_map}
 use Rattle.poly_graph.specs.Problem.{HasSort, IsTerm}
 use Rattle.dyadic.specs.Lowest.{sum_fits, product_fits}
-use Rattle.script_forms.specs.Terms.{Comparison, Unfolded, term, formula, refused, ill_formed, zero_divisor, Fault, comparison_tree, is_zero, same_term, negate_tree, add_tree, multiply_tree, subtract_tree, divide_tree, inverse_of, subtraction_tree, step, steps, all_steps, constant_or, either, second_arm, arms, lift_tree, divisor_not_constant, hold_either, behind_first, quotient_tree, Times, once, twice, twice_and_once, once_more, power, repeats, powers_from, powers, factors, product_tree}
+use Rattle.script_forms.specs.Terms.{Comparison, Unfolded, term, formula, refused, ill_formed, zero_divisor, Fault, comparison_tree, is_zero, same_term, negate_tree, add_tree, multiply_tree, subtract_tree, divide_tree, inverse_of, subtraction_tree, step, steps, all_steps, constant_or, either, second_arm, arms, lift_tree, divisor_not_constant, hold_either, behind_first, quotient_tree, Times, once, twice, twice_and_once, once_more, power, repeats, stands_again, beside, gathered_with, gathered, powers_from, powers, factors, product_tree}
 use Rattle.script_forms.specs.Unfolded.{truth_of, negation_form, term_in, forms_of, two, at_most_two, at_least_two, equal_two, and_of, or_of, not_of, xor_of, xor_from, xor_all, implies_of, choice_form, chain, not_first, different, checked, first_fault, unless_refused, takes, unfolded_operation, equality_form, distinctness_form, as_tree, at_most_terms, at_least_terms, equal_terms, lift_form, compare_two, differ_two, choice_two, choice_tree}
 use Rattle.script_forms.specs.Atoms.{constant_tree, trees, whole_form, atoms_in_place, script_atoms, firsts, already, atom_of}
 use Rattle.script_forms.proofs.Lowest.{reduced_same}
@@ -244,8 +244,16 @@ module _ (sorts : List Sort) where
   powers-good (refused x ∷ us) h = h
   powers-good (either c d a b ∷ us) h = h
 
+  beside-good : (u : Unfolded) (vs : List Unfolded) → IsGoodTree u → EachGood vs → EachGood (beside u vs)
+  beside-good u [] h k = (h, tt)
+  beside-good u (v ∷ vs) h k = choose-each (stands_again v u) (v ∷ u ∷ vs) (v ∷ beside u vs) (k.0, (h, k.1)) (k.0, beside-good u vs h k.1)
+
+  gathered-good : (vs us : List Unfolded) → EachGood vs → EachGood us → EachGood (gathered_with vs us)
+  gathered-good vs [] h k = h
+  gathered-good vs (u ∷ us) h k = gathered-good (beside u vs) us (beside-good u vs k.0 h) k.1
+
   product-good : (at : Place) (us : List Unfolded) → EachGood us → IsGoodTree (product_tree at us)
-  product-good at us h = all-steps-good (multiply_tree at) (multiply-good at) (factors us) (choose-each (hold_either us) us (powers us) h (powers-good us h))
+  product-good at us h = all-steps-good (multiply_tree at) (multiply-good at) (factors us) (choose-each (hold_either us) us (powers (gathered us)) h (powers-good (gathered us) (gathered-good [] us tt h)))
 
   quotient-good : (at : Place) (us : List Unfolded) → EachGood us → IsGoodTree (quotient_tree at us)
   quotient-good at us h = choose-good (hold_either (behind_first us)) (refused (divisor_not_constant at)) (all_steps (divide_tree at) us) tt (all-steps-good (divide_tree at) (divide-good at) us h)

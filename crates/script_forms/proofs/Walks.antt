@@ -14,7 +14,7 @@ use Rattle.dyadic.specs.Point.{Sort, real_sort, bool_sort}
 use Rattle.script_model.proofs.Related.{Each, Respects, claims_alike}
 use Rattle.poly_graph.specs.Term.{Term, constant, multiply, square, Atom}
 use Rattle.poly_graph.specs.Form.{Form, yes_form, no_form, atom_is, bool_is, all_form, any_form, Forms, no_forms, more_forms, form_atoms, forms_atoms, form_map, forms_map}
-use Rattle.script_forms.specs.Terms.{Fault, ill_formed, Comparison, Unfolded, term, formula, refused, is_zero, is_nought, add_tree, multiply_tree, divide_tree, subtract_tree, step, steps, all_steps, subtraction_tree, either, arms, lift_tree, negate_tree, hold_either, behind_first, divisor_not_constant, constant_or, inverse_of, zero_divisor, Times, once, twice, twice_and_once, once_more, power, repeats, factors, product_tree}
+use Rattle.script_forms.specs.Terms.{Fault, ill_formed, Comparison, Unfolded, term, formula, refused, is_zero, is_nought, add_tree, multiply_tree, divide_tree, subtract_tree, step, steps, all_steps, subtraction_tree, either, arms, lift_tree, negate_tree, hold_either, behind_first, divisor_not_constant, constant_or, inverse_of, zero_divisor, Times, once, twice, twice_and_once, once_more, power, repeats, gathered, factors, product_tree}
 use Rattle.script_forms.specs.Unfolded.{as_tree, truth_of, takes, first_fault, unless_refused, checked, unfolded_operation, operation_tree, forms_of, chain, at_most_two, at_least_two, equal_two, not_of, xor_of, equality_form, distinctness_form, implies_of, xor_from, is_real_tree, are_terms, at_most_terms, at_least_terms, equal_terms, lift_form, compare_two, differ_two, and_of, different, choice_two, choice_tree}
 use Rattle.script_forms.specs.Atoms.{fault_of, comparison_fault, or_next, comparisons_fault, tree_fault, trees_fault, unfolding_fault, trees, atom_of, firsts, already, constant_tree, script_atoms, number_in}
 use Rattle.script_forms.specs.Work.{Event, reached, made, asked, formed, met, Work, outcome_of, events_of, ending, subtract_events, divide_events, add_events, multiply_events, inverse_events, step_events, steps_events, all_events, subtraction_events, power_events, powers_events_from, powers_events, product_events, operation_events, unless_met, operator_events, as_work, comparison_events, form_events, forms_events, assertion_events, lift_events, compare_events, together}
@@ -335,8 +335,8 @@ powers-from-silent t n (formula f g ∷ us) = (power-met n t, power-quiet n t)
 powers-from-silent t n (refused x ∷ us) = (power-met n t, power-quiet n t)
 powers-from-silent t n (either c d a b ∷ us) = (power-met n t, power-quiet n t)
 
-powers-silent : (us : List Unfolded) → IsSilent (cond (hold_either us) [] (powers_events us))
-powers-silent us = silent-cond (hold_either us) [] (powers_events us) (refl, refl) (go us)
+powers-silent : (us : List Unfolded) → IsSilent (cond (hold_either us) [] (powers_events (gathered us)))
+powers-silent us = silent-cond (hold_either us) [] (powers_events (gathered us)) (refl, refl) (go (gathered us))
   where
     go : (us : List Unfolded) → IsSilent (powers_events us)
     go [] = (refl, refl)
@@ -346,11 +346,11 @@ powers-silent us = silent-cond (hold_either us) [] (powers_events us) (refl, ref
     go (either c d a b ∷ us) = (refl, refl)
 
 product-met : (at : Place) (us : List Unfolded) → are_terms us ≡ true → first_met (product_events at us) ≡ fault_of (product_tree at us)
-product-met at us e = let es = cond (hold_either us) [] (powers_events us) in let fs = all_events (multiply_tree at) (multiply_events at) (factors us) in
+product-met at us e = let es = cond (hold_either us) [] (powers_events (gathered us)) in let fs = all_events (multiply_tree at) (multiply_events at) (factors us) in
     met-both es fs ∙ ap (λ x. or_next x (first_met fs)) (powers-silent us).0 ∙ all-met (multiply_tree at) (multiply_events at) (multiply-fits at) (multiply-top at) (factors us) (factors_terms us e)
 
 product-quiet : (at : Place) (us : List Unfolded) → asked_in (product_events at us) ≡ []
-product-quiet at us = let es = cond (hold_either us) [] (powers_events us) in let fs = all_events (multiply_tree at) (multiply_events at) (factors us) in
+product-quiet at us = let es = cond (hold_either us) [] (powers_events (gathered us)) in let fs = all_events (multiply_tree at) (multiply_events at) (factors us) in
     asked-both es fs ∙ ap (λ x. x ++ asked_in fs) (powers-silent us).1 ∙ all-quiet (multiply_tree at) (multiply_events at) (multiply-fits at) (factors us)
 
 divided-met : (at : Place) (b : Bool) (us : List Unfolded) → are_terms us ≡ true →

@@ -132,7 +132,7 @@ behind_first (u ∷ rest) = rest
 abbrev pub quotient_tree : Place → List Unfolded → Unfolded
 quotient_tree at us = cond (hold_either (behind_first us)) (refused (divisor_not_constant at)) (all_steps (divide_tree at) us)
 
--- ---- products: a factor that stands several times in a row is a power
+-- ---- products: a factor that stands several times is a power
 
 -- so often: one time, twice as often, or once more than twice as often
 pub data Times : Type 0 where
@@ -155,19 +155,38 @@ abbrev pub repeats : Term → Term → Bool
 repeats (constant q) u = false
 repeats t u = same_term t u
 
+abbrev pub stands_again : Unfolded → Unfolded → Bool
+stands_again (term t) (term u) = repeats t u
+stands_again v u = false
+
+-- a factor is put behind the first one that it repeats, else at the end
+abbrev pub beside : Unfolded → List Unfolded → List Unfolded
+beside u [] = u ∷ []
+beside u (v ∷ vs) = cond (stands_again v u) (v ∷ u ∷ vs) (v ∷ beside u vs)
+
+-- one after the other they are put to those that were gathered
+abbrev pub gathered_with : List Unfolded → List Unfolded → List Unfolded
+gathered_with vs [] = vs
+gathered_with vs (u ∷ rest) = gathered_with (beside u vs) rest
+
+-- factors that are equal stand in a row, where the first of them stood
+abbrev pub gathered : List Unfolded → List Unfolded
+gathered us = gathered_with [] us
+
 -- of a factor that stood so often, and those behind it
 abbrev pub powers_from : Term → Times → List Unfolded → List Unfolded
 powers_from t n [] = term (power n t) ∷ []
 powers_from t n (term u ∷ rest) = cond (repeats t u) (powers_from t (once_more n) rest) (term (power n t) ∷ powers_from u once rest)
 powers_from t n us = term (power n t) ∷ us
 
+-- each that stands in a row with others is one with them
 abbrev pub powers : List Unfolded → List Unfolded
 powers (term t ∷ rest) = powers_from t once rest
 powers us = us
 
 -- where one of them is a Real `ite` they stay as they are
 abbrev pub factors : List Unfolded → List Unfolded
-factors us = cond (hold_either us) us (powers us)
+factors us = cond (hold_either us) us (powers (gathered us))
 
 abbrev pub product_tree : Place → List Unfolded → Unfolded
 product_tree at us = all_steps (multiply_tree at) (factors us)

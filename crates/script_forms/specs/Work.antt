@@ -5,7 +5,7 @@ use Rattle.script_model.specs.Reading.{Operator, equality, distinctness, minus, 
 use Rattle.script_model.specs.Meaning.{neighbours, pairs}
 use Rattle.poly_graph.specs.Term.{Term, constant, multiply, square, Atom}
 use Rattle.poly_graph.specs.Form.{Form, yes_form, no_form, atom_is, bool_is, all_form, any_form, Forms, no_forms, more_forms, forms_map}
-use Rattle.script_forms.specs.Terms.{Fault, ill_formed, divisor_not_constant, Comparison, Unfolded, term, refused, either, hold_either, behind_first, is_nought, inverse_of, is_zero, negate_tree, add_tree, multiply_tree, divide_tree, subtract_tree, step, Times, once, twice, twice_and_once, once_more, power, repeats, factors}
+use Rattle.script_forms.specs.Terms.{Fault, ill_formed, divisor_not_constant, Comparison, Unfolded, term, refused, either, hold_either, behind_first, is_nought, inverse_of, is_zero, negate_tree, add_tree, multiply_tree, divide_tree, subtract_tree, step, Times, once, twice, twice_and_once, once_more, power, repeats, gathered, factors}
 use Rattle.script_forms.specs.Unfolded.{as_tree, truth_of, takes, first_fault}
 use Rattle.script_forms.specs.Atoms.{atom_of}
 
@@ -95,7 +95,7 @@ powers_events us = []
 
 -- all powers, and then their product from left to right
 abbrev pub product_events : Place → List Unfolded → List Event
-product_events at us = cond (hold_either us) [] (powers_events us) ++ all_events (multiply_tree at) (multiply_events at) (factors us)
+product_events at us = cond (hold_either us) [] (powers_events (gathered us)) ++ all_events (multiply_tree at) (multiply_events at) (factors us)
 
 abbrev pub quotient_events : Place → List Unfolded → List Event
 quotient_events at us = cond (hold_either (behind_first us)) (met (divisor_not_constant at) ∷ []) (all_events (divide_tree at) (divide_events at) us)

@@ -6,7 +6,7 @@ use Rattle.script_model.specs.Declared.{Bound, Bounding, known, constant_of, bou
 use Rattle.smt_sexp.specs.Views.{place_of}
 use Rattle.script_fault.specs.declared.place.Place as code_place
 use Rattle.poly_graph.specs.Term.{Term, Kind, le, ge, eq}
-use Rattle.script_forms.specs.Terms.{Unfolded, refused, divisor_not_constant, hold_either, multiply_tree, divide_tree, step, steps, all_steps, powers}
+use Rattle.script_forms.specs.Terms.{Unfolded, refused, divisor_not_constant, hold_either, multiply_tree, divide_tree, step, steps, all_steps, gathered, powers}
 use Rattle.script_forms.specs.Unfolded.{unfolded_operation}
 use Rattle.script_forms.specs.Work.{Event, met, multiply_events, divide_events, powers_events, step_events, steps_events, all_events, compare_events, together, operation_events}
 use Rattle.term_build.specs.Built.{BuilderModel, stand_of}
@@ -196,7 +196,7 @@ folds_calculate m m' ds ds' at s v vs r e held d q w = λ lists u us b bs h l. g
         Lifts m ds m' ds' (operation_events at (operator_of_step s) (u ∷ us)) (unfolded_operation at (operator_of_step s) (u ∷ us)) r
     go Add lists u us b bs d q h l k = k
     go Multiply lists u us b bs d q h l k = let f = multiply_tree at in
-        subst (λ c. Lifts m ds m' ds' (cond c [] (powers_events (u ∷ us)) ++ all_events f (multiply_events at) (cond c (u ∷ us) (powers (u ∷ us)))) (all_steps f (cond c (u ∷ us) (powers (u ∷ us)))) r)
+        subst (λ c. Lifts m ds m' ds' (cond c [] (powers_events (gathered (u ∷ us))) ++ all_events f (multiply_events at) (cond c (u ∷ us) (powers (gathered (u ∷ us))))) (all_steps f (cond c (u ∷ us) (powers (gathered (u ∷ us))))) r)
         (sym (hold_is (making m ds lists) (u ∷ us) (b ∷ bs) (v ∷ vs) (h, l) ∙ held)) k
     go Subtract lists u (x ∷ us) b bs d q h l k = k
     go Subtract lists u [] b bs d q h l k = absurd (d refl (nothing vs bs l))

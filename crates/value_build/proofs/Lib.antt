@@ -13,7 +13,9 @@ pub mod Meeting
 pub mod Spreading
 pub mod Gathering
 pub mod Plain
+pub mod Factors
 pub mod Products
+pub mod Groups
 pub mod Arming
 pub mod Joining
 pub mod Taken

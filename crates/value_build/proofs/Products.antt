@@ -4,7 +4,7 @@ use Rattle.std.specs.Prelude.{Result, Ok, Err}
 use Rattle.poly_graph.specs.Term.{Term}
 use Rattle.script_model.specs.Sexp.{Place}
 use Rattle.script_model.specs.Reading.{times}
-use Rattle.script_forms.specs.Terms.{Unfolded, term, formula, refused, either, multiply_tree, all_steps, steps, Times, once, once_more, power, repeats, powers_from, powers}
+use Rattle.script_forms.specs.Terms.{Unfolded, term, formula, refused, either, multiply_tree, all_steps, steps, Times, once, once_more, power, repeats, gathered, powers_from, powers}
 use Rattle.script_forms.specs.Unfolded.{unfolded_operation}
 use Rattle.script_forms.specs.Work.{Event, multiply_events, all_events, steps_events, power_events, powers_events_from, powers_events, operation_events}
 use Rattle.script_forms.specs.Walk.{after_events, goes_on}
@@ -23,6 +23,7 @@ use Rattle.value_build.specs.declared.arithmetic.Step.{Step}
 use Rattle.value_build.specs.declared.arithmetic.Step.TheVariants.{Add, Subtract, Multiply, Divide}
 use Rattle.value_build.specs.Weights.{term_at}
 use Rattle.value_build.proofs.Plain.{plain_trees}
+use Rattle.value_build.proofs.Factors.{trees_both}
 use Rattle.value_build.proofs.Folds.{emits_grows}
 
 pub powering_begun : (m : BuilderModel) (nodes : List ℕ) (k : ℕ) (rest : List ℕ) → nodes ≡ k ∷ rest → AreNodes m nodes → IsPowering m m nodes k nodes rest []
@@ -57,10 +58,6 @@ powering_repeats m now nodes k j from later made h e =
     }
 
 -- ---- lists of nodes
-
-trees-both : (ts : List Term) (ks js : List ℕ) → trees_at ts (ks ++ js) ≡ trees_at ts ks ++ trees_at ts js
-trees-both ts [] js = refl
-trees-both ts (k ∷ ks) js = ap (λ us. tree_at ts k ∷ us) (trees-both ts ks js)
 
 trees-stay : (m m1 : BuilderModel) (ks : List ℕ) → Extends (stand_of m) (stand_of m1) → AreNodes m ks → trees_at (stand_of m1).trees ks ≡ trees_at (stand_of m).trees ks
 trees-stay m m1 [] g h = refl
@@ -97,7 +94,7 @@ made-trees m now next made i t us g h is =
     ap (λ xs. xs ++ (term t ∷ us)) (sym (trees-stay now next made g h))
     ∙ sym (append_assoc (trees_at (stand_of next).trees made) (term t ∷ []) us)
     ∙ ap (λ x. (trees_at (stand_of next).trees made ++ (term x ∷ [])) ++ us) (sym (tree_is next t i is))
-    ∙ ap (λ xs. xs ++ us) (sym (trees-both (stand_of next).trees made (i ∷ [])))
+    ∙ ap (λ xs. xs ++ us) (sym (trees_both (stand_of next).trees made (i ∷ [])))
 
 -- the next tree is another factor
 pub powering_step : (m now next : BuilderModel) (nodes : List ℕ) (k j n i : ℕ) (from later made : List ℕ) → IsPowering m now nodes k from (j ∷ later) made → repeats (tree_of now k) (tree_of now j) ≡ false →
@@ -183,26 +180,27 @@ pub some_powers : (m m1 : BuilderModel) (nodes ks : List ℕ) → 0 < length nod
 some_powers m m1 [] ks l e n = absurd (omega (arith, l))
 some_powers m m1 (k ∷ nodes) ks l e n = powers-some (term_at (stand_of m).trees k) once (trees_at (stand_of m).trees nodes) (sym e ∙ ap (λ js. trees_at (stand_of m1).trees js) n)
 
--- of trees alone
-product-of : (at : Place) (m m2 : BuilderModel) (nodes : List ℕ) (r : Result ℕ Stop) → let us = trees_at (stand_of m).trees nodes in let f = multiply_tree at in
-    Emits m m2 (powers_events us ++ all_events f (multiply_events at) (powers us)) r (IsTreeOf m2 (all_steps f (powers us))) →
-    Emits m m2 (operation_events at times us) r (IsTreeOf m2 (unfolded_operation at times us))
-product-of at m m2 nodes r h = let us = trees_at (stand_of m).trees nodes in let f = multiply_tree at in
-    subst (λ b. Emits m m2 (cond b [] (powers_events us) ++ all_events f (multiply_events at) (cond b us (powers us))) r (IsTreeOf m2 (all_steps f (cond b us (powers us))))) (sym (plain_trees (stand_of m).trees nodes)) h
-
+-- of trees whose equal factors stand in a row
 pub product_done : {X : Type 0} (P : X → Type 0) (at : Place) (m m1 m2 : BuilderModel) (nodes : List ℕ) (x : X) (k : ℕ) (ks : List ℕ) (r : Result ℕ Stop) → let us = trees_at (stand_of m).trees nodes in let ts = (stand_of m1).trees in let f = multiply_tree at in
     Emits m m1 (powers_events us) (Ok x) P → trees_at ts (k ∷ ks) ≡ powers us →
     Emits m1 m2 (steps_events f (multiply_events at) (tree_at ts k) (trees_at ts ks)) r (IsTreeOf m2 (steps f (tree_at ts k) (trees_at ts ks))) →
-    Emits m m2 (operation_events at times us) r (IsTreeOf m2 (unfolded_operation at times us))
+    Emits m m2 (powers_events us ++ all_events f (multiply_events at) (powers us)) r (IsTreeOf m2 (all_steps f (powers us)))
 product_done P at m m1 m2 nodes x k ks r h e p = let us = trees_at (stand_of m).trees nodes in let f = multiply_tree at in
-    product-of at m m2 nodes r
-    (emits_then P (IsTreeOf m2 (all_steps f (powers us))) m m1 m2 (powers_events us) (all_events f (multiply_events at) (powers us)) x r h
-    (subst (λ (vs : List Unfolded). Emits m1 m2 (all_events f (multiply_events at) vs) r (IsTreeOf m2 (all_steps f vs))) e p))
+    emits_then P (IsTreeOf m2 (all_steps f (powers us))) m m1 m2 (powers_events us) (all_events f (multiply_events at) (powers us)) x r h
+    (subst (λ (vs : List Unfolded). Emits m1 m2 (all_events f (multiply_events at) vs) r (IsTreeOf m2 (all_steps f vs))) e p)
 
-pub product_stopped : {X : Type 0} (P : X → Type 0) (at : Place) (m m1 : BuilderModel) (nodes : List ℕ) (z : Stop) → let us = trees_at (stand_of m).trees nodes in
-    Emits m m1 (powers_events us) (Err z) P → Emits m m1 (operation_events at times us) (Err z) (IsTreeOf m1 (unfolded_operation at times us))
+pub product_stopped : {X : Type 0} (P : X → Type 0) (at : Place) (m m1 : BuilderModel) (nodes : List ℕ) (z : Stop) → let us = trees_at (stand_of m).trees nodes in let f = multiply_tree at in
+    Emits m m1 (powers_events us) (Err z) P → Emits m m1 (powers_events us ++ all_events f (multiply_events at) (powers us)) (Err z) (IsTreeOf m1 (all_steps f (powers us)))
 product_stopped P at m m1 nodes z h = let us = trees_at (stand_of m).trees nodes in let f = multiply_tree at in
-    product-of at m m1 nodes (Err z) (emits_stop P (IsTreeOf m1 (all_steps f (powers us))) m m1 m1 (powers_events us) (all_events f (multiply_events at) (powers us)) z h)
+    emits_stop P (IsTreeOf m1 (all_steps f (powers us))) m m1 m1 (powers_events us) (all_events f (multiply_events at) (powers us)) z h
+
+-- of trees alone, whose factors are gathered
+pub product_gathered : (at : Place) (m m2 : BuilderModel) (nodes factors : List ℕ) (r : Result ℕ Stop) → let us = trees_at (stand_of m).trees nodes in let vs = trees_at (stand_of m).trees factors in let f = multiply_tree at in
+    vs ≡ gathered us → Emits m m2 (powers_events vs ++ all_events f (multiply_events at) (powers vs)) r (IsTreeOf m2 (all_steps f (powers vs))) →
+    Emits m m2 (operation_events at times us) r (IsTreeOf m2 (unfolded_operation at times us))
+product_gathered at m m2 nodes factors r e h = let us = trees_at (stand_of m).trees nodes in let f = multiply_tree at in
+    subst (λ b. Emits m m2 (cond b [] (powers_events (gathered us)) ++ all_events f (multiply_events at) (cond b us (powers (gathered us)))) r (IsTreeOf m2 (all_steps f (cond b us (powers (gathered us)))))) (sym (plain_trees (stand_of m).trees nodes))
+    (subst (λ (vs : List Unfolded). Emits m m2 (powers_events vs ++ all_events f (multiply_events at) (powers vs)) r (IsTreeOf m2 (all_steps f (powers vs)))) e h)
 
 -- an operator of products
 pub product_calculates : (s : Step) (at : Place) (m m1 : BuilderModel) (nodes : List ℕ) (r : Result ℕ Stop) → is_product s ≡ true → let us = trees_at (stand_of m).trees nodes in

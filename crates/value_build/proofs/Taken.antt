@@ -9,7 +9,7 @@ use Rattle.script_model.specs.Sexp.{Place}
 use Rattle.script_model.specs.Declared.{Bound, Bounding}
 use Rattle.script_model.specs.Reading.{Operator, truth, falsehood, negation, conjunction, disjunction, implication, exclusive, equality, distinctness, choice, minus, plus, times, divide, at_most_op, below_op, at_least_op, above_op}
 use Rattle.poly_graph.specs.Term.{Term, constant, Kind, le, ge, eq}
-use Rattle.script_forms.specs.Terms.{Unfolded, term, formula, refused, either, hold_either, arms, lift_tree, step, steps, all_steps, negate_tree, multiply_tree, divide_tree, powers}
+use Rattle.script_forms.specs.Terms.{Unfolded, term, formula, refused, either, hold_either, arms, lift_tree, step, steps, all_steps, negate_tree, multiply_tree, divide_tree, gathered, powers}
 use Rattle.script_forms.specs.Unfolded.{are_formulas, lift_form, unfolded_operation}
 use Rattle.sort_check.specs.Views.{operator_of}
 use Rattle.sort_check.specs.declared.operators.Operator as code_operator
@@ -306,7 +306,7 @@ quotient-held false x u n = n
 
 operation-held : (s : Step) (at : Place) (u : Unfolded) (us : List Unfolded) → hold_either (u ∷ us) ≡ true → IsNoTerm (unfolded_operation at (operator_of_step s) (u ∷ us))
 operation-held Add at u us h = all-held (tree_of_step Add at) u us h
-operation-held Multiply at u us h = subst (λ b. IsNoTerm (all_steps (multiply_tree at) (cond b (u ∷ us) (powers (u ∷ us))))) (sym h) (all-held (multiply_tree at) u us h)
+operation-held Multiply at u us h = subst (λ b. IsNoTerm (all_steps (multiply_tree at) (cond b (u ∷ us) (powers (gathered (u ∷ us)))))) (sym h) (all-held (multiply_tree at) u us h)
 operation-held Subtract at u [] h = one-held (λ t. term (negate_tree t)) u h
 operation-held Subtract at u (v ∷ us) h = all-held (tree_of_step Subtract at) u (v ∷ us) h
 operation-held Divide at u us h = quotient-held (hold_either us) _ (steps (divide_tree at) u us) (all-held (divide_tree at) u us h)

@@ -1,6 +1,6 @@
 -- Arithmetic makes of what trees say of bounds what their operator makes of the bounds: constants are folded where all
 -- arguments are constants.
-use Rattle.std.proofs.Common.{◌≡◌, ℕ, List, [], ◌∷◌, Bool, true, false, cond, Option, Some, None, refl, ap, sym, ◌∙◌, subst, arith, ◌⊎◌, inl, inr, IsTrue, ℤ, ◌≤ℤ◌}
+use Rattle.std.proofs.Common.{◌≡◌, ℕ, ◌<◌, List, [], ◌∷◌, ◌++◌, length, append_assoc, append-nil, Bool, true, false, cond, Option, Some, None, refl, ap, sym, ◌∙◌, subst, arith, ◌⊎◌, inl, inr, IsTrue, ℤ, ◌≤ℤ◌}
 use borrow.Author.Differences.{ints}
 use Rattle.dyadic.specs.Fraction.{Fraction, IsFraction, zero_fraction, negated, sum_of, difference_of, product_of, quotient_of, at_most}
 use Rattle.dyadic.specs.Lowest.{reduced, sum_fits, product_fits}
@@ -11,7 +11,7 @@ use Rattle.script_model.specs.Meaning.{Value, real, bool, either as either_value
 use Rattle.script_model.specs.Declared.{Bounding, known, constant_of, other, bounds, with_first, all_known, computed, alone, bounding_operation}
 use Rattle.script_model.proofs.Related.{Each}
 use Rattle.poly_graph.specs.Term.{Term, constant, variable, negate, add, multiply, square}
-use Rattle.script_forms.specs.Terms.{Fault, Unfolded, term, refused, divisor_not_constant, constant_or, number_too_wide, ill_formed, add_tree, multiply_tree, subtract_tree, divide_tree, negate_tree, is_nought, inverse_of, zero_divisor, divisor_not_constant, same_term, steps, all_steps, Times, once, twice, twice_and_once, once_more, power, repeats, powers_from, powers, product_tree}
+use Rattle.script_forms.specs.Terms.{Fault, Unfolded, term, refused, divisor_not_constant, constant_or, number_too_wide, ill_formed, add_tree, multiply_tree, subtract_tree, divide_tree, negate_tree, is_nought, inverse_of, zero_divisor, divisor_not_constant, same_term, steps, all_steps, Times, once, twice, twice_and_once, once_more, power, repeats, beside, gathered, gathered_with, powers_from, powers, product_tree}
 use Rattle.script_forms.specs.Unfolded.{first_fault, takes, unless_refused, operation_tree, unfolded_operation}
 use Rattle.script_forms.proofs.Means.{Means}
 use Rattle.script_forms.proofs.Meaning.{respects}
@@ -21,6 +21,7 @@ use Rattle.term_build.proofs.Emits.{add_is, multiply_is}
 use Rattle.declared_box.specs.Same.{SameNumber}
 use Rattle.value_build.specs.Values.{Weighs}
 use Rattle.value_build.proofs.Plain.{plain_trees}
+use Rattle.value_build.proofs.Factors.{trees_both, length_factors}
 use Rattle.value_build.specs.Weights.{term_at, WeighsEach}
 use Rattle.value_build.specs.Arithmetic.{operator_of_step, tree_of_step}
 use Rattle.value_build.specs.declared.arithmetic.Step.{Step}
@@ -472,15 +473,126 @@ known-powers ts k (j ∷ ks) (b ∷ bs) qs h a = elim (known_or (term_at ts k) b
   | inr w ↦ let o = w.1 bs in cc
 ]
 
+-- ---- gathered factors
+
+-- where not all are known, they are not in another order
+swap-none : (b c : Bounding) (bs : List Bounding) → all_known (b ∷ c ∷ bs) ≡ None → all_known (c ∷ b ∷ bs) ≡ None
+swap-none (known p) (known q) bs e = ap (λ x. with_first q (with_first p x)) (first-none q (all_known bs) (first-none p (with_first q (all_known bs)) e))
+swap-none (constant_of i) (known q) bs e = refl
+swap-none other (known q) bs e = refl
+swap-none (bounds x) (known q) bs e = refl
+swap-none b (constant_of i) bs e = refl
+swap-none b other bs e = refl
+swap-none b (bounds x) bs e = refl
+
+cons-none : (c : Bounding) (bs ws : List Bounding) → (all_known bs ≡ None → all_known ws ≡ None) → all_known (c ∷ bs) ≡ None → all_known (c ∷ ws) ≡ None
+cons-none (known q) bs ws f e = ap (λ x. with_first q x) (f (first-none q (all_known bs) e))
+cons-none (constant_of i) bs ws f e = refl
+cons-none other bs ws f e = refl
+cons-none (bounds x) bs ws f e = refl
+
+rotate-none : (b : Bounding) (bs ws : List Bounding) → all_known (b ∷ (bs ++ ws)) ≡ None → all_known (bs ++ (b ∷ ws)) ≡ None
+rotate-none b [] ws e = e
+rotate-none b (c ∷ bs) ws e = cons-none c (b ∷ (bs ++ ws)) (bs ++ (b ∷ ws)) (rotate-none b bs ws) (swap-none b c (bs ++ ws) e)
+
+behind-none : (bs ws vs : List Bounding) → (all_known ws ≡ None → all_known vs ≡ None) → all_known (bs ++ ws) ≡ None → all_known (bs ++ vs) ≡ None
+behind-none [] ws vs f e = f e
+behind-none (c ∷ bs) ws vs f e = cons-none c (bs ++ ws) (bs ++ vs) (behind-none bs ws vs f) e
+
+-- nodes of these trees, which weigh what they did, in another order
+record Placed (ts : List Term) (us : List Unfolded) (bs : List Bounding) : Type 0 where
+  nodes : List ℕ
+  weights : List Bounding
+  trees : trees_at ts nodes ≡ us
+  each : WeighsEach ts nodes weights
+  none : all_known bs ≡ None → all_known weights ≡ None
+
+placed-cond : (ts : List Term) (b : Bool) (us vs : List Unfolded) (bs : List Bounding) → Placed ts us bs → Placed ts vs bs → Placed ts (cond b us vs) bs
+placed-cond ts true us vs bs p q = p
+placed-cond ts false us vs bs p q = q
+
+beside-weighs : (ts : List Term) (k : ℕ) (b : Bounding) (ks : List ℕ) (bs : List Bounding) → Weighs (term_at ts k) b → WeighsEach ts ks bs → Placed ts (beside (tree_at ts k) (trees_at ts ks)) (b ∷ bs)
+beside-weighs ts k b [] [] h g = record { nodes = k ∷ []; weights = b ∷ []; trees = refl; each = (h, tt); none = λ e. e }
+beside-weighs ts k b (j ∷ ks) (c ∷ bs) h g = let p = beside-weighs ts k b ks bs h g.1 in
+    placed-cond ts (repeats (term_at ts j) (term_at ts k)) (tree_at ts j ∷ tree_at ts k ∷ trees_at ts ks) (tree_at ts j ∷ beside (tree_at ts k) (trees_at ts ks)) (b ∷ c ∷ bs)
+    (record { nodes = j ∷ k ∷ ks; weights = c ∷ b ∷ bs; trees = refl; each = (g.0, (h, g.1)); none = swap-none b c bs })
+    (record {
+      nodes = j ∷ p.nodes;
+      weights = c ∷ p.weights;
+      trees = ap (λ us. tree_at ts j ∷ us) p.trees;
+      each = (g.0, p.each);
+      none = λ e. cons-none c (b ∷ bs) p.weights p.none (swap-none b c bs e);
+    })
+beside-weighs ts k b [] (c ∷ bs) h g = elim g [ ]
+beside-weighs ts k b (j ∷ ks) [] h g = elim g [ ]
+
+gathered-weighs : (ts : List Term) (ns : List ℕ) (ws : List Bounding) (ks : List ℕ) (bs : List Bounding) → WeighsEach ts ns ws → WeighsEach ts ks bs → Placed ts (gathered_with (trees_at ts ns) (trees_at ts ks)) (bs ++ ws)
+gathered-weighs ts ns ws [] [] g h = record { nodes = ns; weights = ws; trees = refl; each = g; none = λ e. e }
+gathered-weighs ts ns ws (k ∷ ks) (b ∷ bs) g h =
+    let p = beside-weighs ts k b ns ws h.0 g in let q = gathered-weighs ts p.nodes p.weights ks bs p.each h.1 in record {
+      nodes = q.nodes;
+      weights = q.weights;
+      trees = q.trees ∙ ap (λ us. gathered_with us (trees_at ts ks)) p.trees;
+      each = q.each;
+      none = λ e. q.none (behind-none bs (b ∷ ws) p.weights p.none (rotate-none b bs ws e));
+    }
+gathered-weighs ts ns ws [] (b ∷ bs) g h = elim h [ ]
+gathered-weighs ts ns ws (k ∷ ks) [] g h = elim h [ ]
+
+two-or-more : (f : Term → Term → Unfolded) → IsStep f → (ts : List Term) (ns : List ℕ) (ws : List Bounding) (r : Term) → 1 < length ns → WeighsEach ts ns ws → all_known ws ≡ None →
+    all_steps f (powers (trees_at ts ns)) ≡ term r → Weighs r other
+two-or-more f i ts (k ∷ j ∷ ks) ws r l h a e = other-product f i ts k j ks ws r h a e
+two-or-more f i ts [] ws r l h a e = absurd (omega (arith, l))
+two-or-more f i ts (k ∷ []) ws r l h a e = absurd (omega (arith, l))
+
+other-gathered : (f : Term → Term → Unfolded) → IsStep f → (ts : List Term) (k j : ℕ) (ks : List ℕ) (bs : List Bounding) (r : Term) → WeighsEach ts (k ∷ j ∷ ks) bs → all_known bs ≡ None →
+    all_steps f (powers (gathered (trees_at ts (k ∷ j ∷ ks)))) ≡ term r → Weighs r other
+other-gathered f i ts k j ks bs r h a e = let p = gathered-weighs ts [] [] (k ∷ j ∷ ks) bs tt h in
+    two-or-more f i ts p.nodes p.weights r (omega (arith, length_factors ts (k ∷ j ∷ ks) p.nodes p.trees)) p.each
+    (p.none (ap (λ xs. all_known xs) (append-nil bs) ∙ a)) (ap (λ us. all_steps f (powers us)) p.trees ∙ e)
+
+-- constants stay where they are
+abbrev AreConstants : List Term → List ℕ → Type 0
+AreConstants ts [] = Unit {0}
+AreConstants ts (k ∷ ks) = ((c : Fraction) × (term_at ts k ≡ constant c)) × AreConstants ts ks
+
+are-constants : (ts : List Term) (ks : List ℕ) (bs : List Bounding) (qs : List Value) → WeighsEach ts ks bs → all_known bs ≡ Some qs → AreConstants ts ks
+are-constants ts [] [] qs h a = tt
+are-constants ts (k ∷ ks) (b ∷ bs) qs h a = elim (known_or (term_at ts k) b h.0) [
+  | inl w ↦ let s = first-some w.number (all_known bs) qs (ap (λ x. all_known (x ∷ bs)) (sym w.bounding) ∙ a) in
+      ((w.written, w.tree), are-constants ts ks bs s.0 h.1 s.1)
+  | inr w ↦ let o = w.1 bs in cc
+]
+are-constants ts [] (b ∷ bs) qs h a = elim h [ ]
+are-constants ts (k ∷ ks) [] qs h a = elim h [ ]
+
+constants-end : (ts : List Term) (ns : List ℕ) (k : ℕ) → AreConstants ts ns → AreConstants ts (k ∷ []) → AreConstants ts (ns ++ (k ∷ []))
+constants-end ts [] k h g = g
+constants-end ts (n ∷ ns) k h g = (h.0, constants-end ts ns k h.1 g)
+
+beside-constants : (ts : List Term) (ns : List ℕ) (k : ℕ) → AreConstants ts ns → beside (tree_at ts k) (trees_at ts ns) ≡ trees_at ts ns ++ (tree_at ts k ∷ [])
+beside-constants ts [] k h = refl
+beside-constants ts (n ∷ ns) k h =
+    ap (λ b. cond b (tree_at ts n ∷ tree_at ts k ∷ trees_at ts ns) (tree_at ts n ∷ beside (tree_at ts k) (trees_at ts ns))) (no-repeats (term_at ts n) (term_at ts k) h.0.0 h.0.1)
+    ∙ ap (λ us. tree_at ts n ∷ us) (beside-constants ts ns k h.1)
+
+gathered-constants : (ts : List Term) (ns ks : List ℕ) → AreConstants ts ns → AreConstants ts ks → gathered_with (trees_at ts ns) (trees_at ts ks) ≡ trees_at ts (ns ++ ks)
+gathered-constants ts ns [] h g = ap (λ js. trees_at ts js) (sym (append-nil ns))
+gathered-constants ts ns (k ∷ ks) h g =
+    ap (λ us. gathered_with us (trees_at ts ks)) (beside-constants ts ns k h ∙ sym (trees_both ts ns (k ∷ [])))
+    ∙ gathered-constants ts (ns ++ (k ∷ [])) ks (constants-end ts ns k h (g.0, tt)) g.1
+    ∙ ap (λ js. trees_at ts js) (append_assoc ns (k ∷ []) ks)
+
 -- trees alone
-pub plain_product : (at : Place) (ts : List Term) (ks : List ℕ) → product_tree at (trees_at ts ks) ≡ all_steps (multiply_tree at) (powers (trees_at ts ks))
-plain_product at ts ks = ap (λ b. all_steps (multiply_tree at) (cond b (trees_at ts ks) (powers (trees_at ts ks)))) (plain_trees ts ks)
+pub plain_product : (at : Place) (ts : List Term) (ks : List ℕ) → product_tree at (trees_at ts ks) ≡ all_steps (multiply_tree at) (powers (gathered (trees_at ts ks)))
+plain_product at ts ks = ap (λ b. all_steps (multiply_tree at) (cond b (trees_at ts ks) (powers (gathered (trees_at ts ks))))) (plain_trees ts ks)
 
 several-factors : (at : Place) (ts : List Term) (k j : ℕ) (ks : List ℕ) (bs : List Bounding) (r : Term) → WeighsEach ts (k ∷ j ∷ ks) bs → takes times (trees_at ts (k ∷ j ∷ ks)) ≡ true →
     product_tree at (trees_at ts (k ∷ j ∷ ks)) ≡ term r → (x : Option (List Value)) → all_known bs ≡ x → Weighs r (computed times x)
-several-factors at ts k j ks bs r h t e None a = other-product (multiply_tree at) (multiply_step at) ts k j ks bs r h a (sym (plain_product at ts (k ∷ j ∷ ks)) ∙ e)
+several-factors at ts k j ks bs r h t e None a = other-gathered (multiply_tree at) (multiply_step at) ts k j ks bs r h a (sym (plain_product at ts (k ∷ j ∷ ks)) ∙ e)
 several-factors at ts k j ks bs r h t e (Some qs) a =
-    let g = plain_product at ts (k ∷ j ∷ ks) ∙ ap (λ us. all_steps (multiply_tree at) us) (known-powers ts k (j ∷ ks) bs qs h a) in
+    let g = plain_product at ts (k ∷ j ∷ ks) ∙ ap (λ us. all_steps (multiply_tree at) (powers us)) (gathered-constants ts [] (k ∷ j ∷ ks) tt (are-constants ts (k ∷ j ∷ ks) bs qs h a))
+    ∙ ap (λ us. all_steps (multiply_tree at) us) (known-powers ts k (j ∷ ks) bs qs h a) in
     several Multiply at ts k j ks bs r h t g e (Some qs) a
 
 -- the opposite of one tree

@@ -1,6 +1,6 @@
 -- What the calls answer, in values of the code: what is made, or a part of it (what a builder has made, a sketch, a table of
 -- bounds), as it was and as it is then.
-use Rattle.std.specs.Prelude.{◌≡◌, ℕ, List, Bool, false, length, Result, Vec}
+use Rattle.std.specs.Prelude.{◌≡◌, ℕ, List, ◌++◌, Bool, false, length, Result, Vec}
 use Rattle.std.specs.Global.{Global}
 use Rattle.std.specs.declared.alloc.AllocError.{AllocError}
 use Rattle.dyadic.specs.Lowest.{reduced}
@@ -13,9 +13,9 @@ use Rattle.script_model.specs.Reading.{literal_value}
 use Rattle.poly_graph.specs.Term.{Term, constant}
 use Rattle.poly_graph.specs.Views.{kind_of}
 use Rattle.poly_graph.specs.declared.node.Kind.{Kind}
-use Rattle.script_forms.specs.Terms.{Unfolded, powers, steps, term}
+use Rattle.script_forms.specs.Terms.{Unfolded, all_steps, multiply_tree, powers, steps, term}
 use Rattle.script_forms.specs.Unfolded.{unfolded_operation}
-use Rattle.script_forms.specs.Work.{ending, operation_events, powers_events, steps_events}
+use Rattle.script_forms.specs.Work.{all_events, ending, multiply_events, operation_events, powers_events, steps_events}
 use Rattle.sort_check.specs.Views.{operator_of}
 use Rattle.sort_check.specs.declared.operators.Operator.{Operator}
 use Rattle.term_build.specs.Built.{BuilderModel, stand_of}
@@ -84,6 +84,12 @@ AreTreesOf m us ks = (trees_at (stand_of m).trees ks.items ≡ us) × AreNodes m
 -- the powers of trees, where each that stands in a row with others is one with them
 abbrev pub MakesPowers : BuilderModel → BuilderModel → List ℕ → Result Numbers Stop → Type 0
 MakesPowers old new nodes r = let us = trees_at (stand_of old).trees nodes in Emits old new (powers_events us) r (AreTreesOf new (powers us))
+
+-- the product of the powers of trees
+abbrev pub MultipliesPowers : BuilderModel → BuilderModel → Place → List ℕ → Result ℕ Stop → Type 0
+MultipliesPowers old new at nodes r =
+    let us = trees_at (stand_of old).trees nodes in let f = multiply_tree (place_of at) in
+    Emits old new (powers_events us ++ all_events f (multiply_events (place_of at)) (powers us)) r (IsTreeOf new (all_steps f (powers us)))
 
 -- what the operator makes of trees
 abbrev pub CalculatesTrees : Step → BuilderModel → BuilderModel → Place → List ℕ → Result ℕ Stop → Type 0

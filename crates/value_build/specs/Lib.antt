@@ -1,6 +1,7 @@
 pub mod Making
 pub mod Values
 pub mod Arithmetic
+pub mod Groups
 pub mod Weights
 pub mod Chains
 pub mod Bounds

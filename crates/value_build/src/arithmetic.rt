@@ -1,9 +1,10 @@
 // Sums, differences, products and quotients of several trees.
 ghost use Rattle.std.specs.Prelude.{◌≡◌, ◌<◌, length};
 ghost use Rattle.value_build.specs.Arithmetic.{AreNodes, is_difference, is_product};
-ghost use Rattle.value_build.specs.Calls.{CalculatesTrees, ComputesStep, FoldsTrees, MakesPowers};
+ghost use Rattle.value_build.specs.Calls.{CalculatesTrees, ComputesStep, FoldsTrees, MakesPowers, MultipliesPowers};
 ghost use Rattle.value_build.specs.declared.arithmetic.Step.TheVariants.{Multiply};
 
+use crate::gather::gather;
 use script_fault::Place;
 use std::alloc::Global;
 use term_build::{Builder, Stop};
@@ -82,11 +83,17 @@ fn powers(alloc: Global, builder: &mut Builder, nodes: &[u32]) -> Result<Vec<u32
     Ok(made)
 }
 
-// The product of trees, of which there are some: the powers, and then their product from the left.
-fn multiply(alloc: Global, builder: &mut Builder, at: Place, nodes: &[u32]) -> Result<u32, Stop>
+// The product of trees, of which there are some and those that are equal stand in a row: the powers, and then their
+// product from the left.
+fn multiply_powers(
+    alloc: Global,
+    builder: &mut Builder,
+    at: Place,
+    nodes: &[u32],
+) -> Result<u32, Stop>
     requires some { 0 < length nodes.now }
     requires nodes { AreNodes builder.old nodes.now }
-    ensures does { CalculatesTrees Multiply builder.old builder.new at nodes.now result }
+    ensures does { MultipliesPowers builder.old builder.new at nodes.now result }
     ensures sorts { builder.new.sorts ≡ builder.old.sorts }
 {
     let made = powers(alloc, builder, nodes)?;
@@ -94,6 +101,20 @@ fn multiply(alloc: Global, builder: &mut Builder, at: Place, nodes: &[u32]) -> R
         unreachable!()
     };
     fold(builder, at, Step::Multiply, *first, rest)
+}
+
+// The product of trees, of which there are some: those that are equal are a power. Two stand in a row.
+fn multiply(alloc: Global, builder: &mut Builder, at: Place, nodes: &[u32]) -> Result<u32, Stop>
+    requires some { 0 < length nodes.now }
+    requires nodes { AreNodes builder.old nodes.now }
+    ensures does { CalculatesTrees Multiply builder.old builder.new at nodes.now result }
+    ensures sorts { builder.new.sorts ≡ builder.old.sorts }
+{
+    if nodes.len() < 3 {
+        return multiply_powers(alloc, builder, at, nodes);
+    }
+    let factors = gather(alloc, builder, nodes)?;
+    multiply_powers(alloc, builder, at, factors.as_slice())
 }
 
 /// Whether the step is that of differences.

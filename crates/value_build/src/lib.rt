@@ -6,6 +6,7 @@ mod arms;
 mod bounds;
 mod chains;
 mod claim;
+mod gather;
 mod leaves;
 mod lift;
 mod literal;

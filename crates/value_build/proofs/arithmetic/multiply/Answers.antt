@@ -1,39 +1,22 @@
-use Rattle.std.proofs.Common.{◌≡◌, ℕ, List, ◌∷◌, ◌∙◌, sym, subst}
-use Rattle.std.specs.Prelude.{Result}
+use Rattle.std.proofs.Common.{ℕ, List, length, ap, arith, subst}
 use Rattle.smt_sexp.specs.Views.{place_of}
-use Rattle.script_forms.specs.Terms.{powers}
-use Rattle.script_forms.specs.Unfolded.{unfolded_operation}
-use Rattle.script_forms.specs.Work.{operation_events}
-use Rattle.script_model.specs.Reading.{times}
 use Rattle.term_build.specs.Built.{stand_of}
 use Rattle.term_build.specs.Pairs.{trees_at}
-use Rattle.term_build.specs.Steps.{Emits, IsTreeOf}
-use Rattle.term_build.specs.declared.stop.Stop.{Stop}
-use Rattle.term_build.proofs.Emits.{err_is}
-use Rattle.value_build.specs.Arithmetic.{AreNodes}
-use Rattle.value_build.specs.Calls.{AreTreesOf}
-use Rattle.value_build.proofs.Folds.{nil_of}
-use Rattle.value_build.proofs.Products.{some_powers, product_done, product_stopped}
+use Rattle.value_build.specs.Calls.{MultipliesPowers}
+use Rattle.value_build.proofs.Factors.{few_gathered, length_trees, length_factors}
+use Rattle.value_build.proofs.Products.{product_gathered}
 use Rattle.value_build.proofs.arithmetic.multiply.Goals as goal
 
-pub returns-in_err-made-clause-does : goal.returns-in_err-made-clause-does
-returns-in_err-made-clause-does c = let us = trees_at (stand_of c.args.builder.now).trees c.args.nodes.now in
-    subst (λ (r : Result ℕ Stop). Emits c.args.builder.now c.powers.new.builder (operation_events (place_of c.args.at) times us) r (IsTreeOf c.powers.new.builder (unfolded_operation (place_of c.args.at) times us)))
-    (sym (err_is c.from_residual.result c.in_err-made.field-0.0 c.from_residual.ensures))
-    (product_stopped (AreTreesOf c.powers.new.builder (powers us)) (place_of c.args.at) c.args.builder.now c.powers.new.builder c.args.nodes.now c.in_err-made.field-0.0 c.in_err-made.ensures.does)
+pub returns-then-nodes-lt3-clause-does : goal.returns-then-nodes-lt3-clause-does
+returns-then-nodes-lt3-clause-does c = let ts = (stand_of c.args.builder.now).trees in
+    product_gathered (place_of c.args.at) c.args.builder.now c.multiply_powers.new.builder c.args.nodes.now c.args.nodes.now c.multiply_powers.result
+    (few_gathered (trees_at ts c.args.nodes.now) (omega (arith, c.if-nodes-lt3.true, length_trees ts c.args.nodes.now))) c.multiply_powers.ensures.does
 
-pub unreachable-requires : goal.unreachable-requires
-unreachable-requires c = some_powers c.args.builder.now c.powers.new.builder c.args.nodes.now c.deref.result.now c.requires.some
-    (subst (λ (ks : List ℕ). trees_at (stand_of c.powers.new.builder).trees ks ≡ powers (trees_at (stand_of c.args.builder.now).trees c.args.nodes.now)) (sym c.deref.ensures.value) c.in_ok-made.ensures.does.1.0) (nil_of c.deref.result.now c.in_default.ensures.cases)
-
-pub fold-requires-clause-first : goal.fold-requires-clause-first
-fold-requires-clause-first c = (subst (λ (ks : List ℕ). AreNodes c.powers.new.builder ks) (sym c.deref.ensures.value ∙ c.in-Some.ensures.cases.0) c.in_ok-made.ensures.does.1.1).0
-
-pub fold-requires-clause-rest : goal.fold-requires-clause-rest
-fold-requires-clause-rest c = (subst (λ (ks : List ℕ). AreNodes c.powers.new.builder ks) (sym c.deref.ensures.value ∙ c.in-Some.ensures.cases.0) c.in_ok-made.ensures.does.1.1).1
+pub multiply_powers-requires-2-clause-some : goal.multiply_powers-requires-2-clause-some
+multiply_powers-requires-2-clause-some c =
+    omega (arith, c.requires.some, length_factors (stand_of c.args.builder.now).trees c.args.nodes.now c.in_ok-factors.factors.items c.in_ok-factors.ensures.0, ap (λ (ks : List ℕ). length ks) c.as_slice.ensures.value)
 
 pub returns-clause-does : goal.returns-clause-does
-returns-clause-does c = let us = trees_at (stand_of c.args.builder.now).trees c.args.nodes.now in
-    product_done (AreTreesOf c.powers.new.builder (powers us)) (place_of c.args.at) c.args.builder.now c.powers.new.builder c.fold.new.builder c.args.nodes.now c.in_ok-made.made c.in-Some.first.now c.in-Some.rest.now c.fold.result c.in_ok-made.ensures.does
-    (subst (λ (ks : List ℕ). trees_at (stand_of c.powers.new.builder).trees ks ≡ powers us) (sym c.deref.ensures.value ∙ c.in-Some.ensures.cases.0) c.in_ok-made.ensures.does.1.0)
-    c.fold.ensures.does
+returns-clause-does c =
+    product_gathered (place_of c.args.at) c.args.builder.now c.multiply_powers-2.new.builder c.args.nodes.now c.in_ok-factors.factors.items c.multiply_powers-2.result c.in_ok-factors.ensures.0
+    (subst (λ (ks : List ℕ). MultipliesPowers c.args.builder.now c.multiply_powers-2.new.builder c.args.at ks c.multiply_powers-2.result) c.as_slice.ensures.value c.multiply_powers-2.ensures.does)
