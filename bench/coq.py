@@ -1,14 +1,14 @@
 #!/usr/bin/env python3
 """Measures how the library `coq/` replays certificates (docs/COQ.md).
 
-    bench/coq.py LIBRARY CERTIFICATES [--arithmetics Big,Prim] [--most LINES] [--jobs N] [--page]
-                 [NAME ..]
+    bench/coq.py LIBRARY CERTIFICATES [--arithmetics Big,Prim] [--most LINES] [--jobs N]
+                 [--page --program DPOLY] [NAME ..]
 
 LIBRARY is `coq/theories` after `make -C coq`. CERTIFICATES is a folder with pairs NAME.smt2 and
 NAME.cert, as bench/trim.py makes one. A row is printed for each: lines of the certificate, and user
 seconds of the command that writes the file, and with each arithmetic of coqc in all and of the
 tactic alone; `fails` where Coq does not accept it. With `--page` the rows from 250 lines on go into
-the page, with the sum of all."""
+the page, with the sum of all and the commit of the program that wrote the certificates."""
 import argparse
 import multiprocessing
 import os
@@ -20,7 +20,6 @@ import tempfile
 import time
 from typing import Iterator, List, NamedTuple, Optional
 
-import results
 import tables
 
 TOP = os.path.dirname(os.path.dirname(os.path.abspath(__file__)))
@@ -112,14 +111,12 @@ def sums(rows: List[Row], arithmetics: List[str]) -> Iterator[List[str]]:
 
 def put(rows: List[Row], words: argparse.Namespace) -> None:
     """The tables of the page."""
-    about = results.machine(words.library)
-    run_on = tables.markdown(['date', 'machine', 'side by side'],
-                             [[about['date'], about['machine'], str(words.jobs)]])
     heads = [f'{it}: {what}' for it in words.arithmetics for what in ('`coqc`', 'tactic')]
     shown = sorted((it for it in rows if it.lines >= SHOWN), key=lambda it: it.lines)
     whole = tables.markdown(['certificate', 'lines', 'command', *heads], list(map(cells_of, shown)))
     heads = ['arithmetic', 'replay', 'lines', 'longest', 'tactic, ms a line', '`coqc`, ms a line']
     all_of = tables.markdown(heads, list(sums(rows, words.arithmetics)))
+    run_on = tables.run_on(words.program, words.jobs, {})
     tables.put('COQ.md', {'replays-run': run_on, 'replays': whole, 'replays-sum': all_of})
 
 
@@ -132,6 +129,7 @@ def main() -> None:
     parser.add_argument('--most', type=int, default=10**9)
     parser.add_argument('--jobs', type=int, default=1)
     parser.add_argument('--page', action='store_true')
+    parser.add_argument('--program', default='')
     parser.add_argument('names', nargs='*')
     words = parser.parse_intermixed_args()
     found = [it[:-5] for it in os.listdir(words.certificates) if it.endswith('.cert')]

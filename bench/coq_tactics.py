@@ -23,7 +23,6 @@ from fractions import Fraction
 from glob import glob
 from typing import Any, Dict, Iterator, List, NamedTuple, Tuple
 
-import results
 import tables
 
 TOP = os.path.dirname(os.path.dirname(os.path.abspath(__file__)))
@@ -407,11 +406,8 @@ def main() -> None:
         rows.append(row)
         print('|', ' | '.join(row), '|', flush=True)
     if words.page:
-        about = results.machine(words.program or words.library)
-        run_on = tables.markdown(
-            ['date', 'machine', 'side by side', '`dpoly` of commit', 'stopped after'],
-            [[about['date'], about['machine'], str(words.jobs), about['commit'],
-              f'{words.seconds:g} s']])
+        run_on = tables.run_on(words.program or words.library, words.jobs,
+                               {'stopped after': f'{words.seconds:g} s'})
         whole = tables.markdown(rows[0], rows[1:])
         tables.put('COQ.md', {'tactics-run': run_on, 'tactics': whole})
 
