@@ -389,6 +389,14 @@ def table(words: argparse.Namespace, tactics: List[str]) -> Iterator[List[str]]:
             yield [name, *(cell for _ in tactics for cell in next(cells))]
 
 
+def proved(rows: List[List[str]]) -> List[str]:
+    """The last row: how many goals are proved in each column of seconds of Coq."""
+    columns = list(zip(*rows))
+    return ['proved'] + ['' if column[0] in ('lines', '`solve`') else
+                         str(sum(bool(re.match('[<0-9]', it)) for it in column[1:]))
+                         for column in columns[1:]]
+
+
 def main() -> None:
     parser = argparse.ArgumentParser(
         description=__doc__, formatter_class=argparse.RawDescriptionHelpFormatter)
@@ -408,7 +416,7 @@ def main() -> None:
     if words.page:
         run_on = tables.run_on(words.program or words.library, words.jobs,
                                {'stopped after': f'{words.seconds:g} s'})
-        whole = tables.markdown(rows[0], rows[1:])
+        whole = tables.markdown(rows[0], [*rows[1:], proved(rows)])
         tables.put('COQ.md', {'tactics-run': run_on, 'tactics': whole})
 
 

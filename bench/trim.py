@@ -4,11 +4,11 @@
     bench/trim.py DPOLY DPOLY_CHECK FOLDER [--most LINES] [--seconds S] [--jobs N] [--page]
                   [NAME ..]
 
-Solves the scripts of examples/ and bench/scripts, with the options that a script names, keeps those
-that are `unsat`, or have a least value, as NAME.smt2 and NAME.cert in FOLDER (where they are not
-there already), trims each certificate of at most so many lines to NAME.trim, and has DPOLY_CHECK
-confirm both. A row is printed for each: its name, lines before and after, processor seconds of
-trimming, and what the checker says of the two. With `--page` the sum goes into the page."""
+Solves the scripts of examples/ and bench/scripts, keeps those that are `unsat`, or have a least
+value, as NAME.smt2 and NAME.cert in FOLDER (where they are not there already), trims each
+certificate of at most so many lines to NAME.trim, and has DPOLY_CHECK confirm both. A row is
+printed for each: its name, lines before and after, processor seconds of trimming, and what the
+checker says of the two. With `--page` the tables go into the page."""
 import argparse
 import multiprocessing
 import os
@@ -55,12 +55,8 @@ def solve(program: str, script: str, folder: str, name: str, seconds: float) -> 
     kept, certificate = (os.path.join(folder, name + end) for end in ('.smt2', '.cert'))
     if os.path.exists(certificate):
         return True
-    text = read(script)
-    options = re.search(rb'^; options: (.*)$', text, re.M)
-    command = ['minimize'] if b'(minimize ' in text else ['solve']
-    if options:
-        command += options[1].decode().split()
-    answer = said([program, *command, script, certificate], seconds)
+    command = 'minimize' if b'(minimize ' in read(script) else 'solve'
+    answer = said([program, command, script, certificate], seconds)
     if not re.search('^(unsat|minimum)$', answer, re.M):
         if os.path.exists(certificate):
             os.remove(certificate)
