@@ -2,23 +2,28 @@
 """Twenty goals by the tactics that users of Coq have, and by certificates (docs/COQ.md).
 
     bench/coq_tactics.py LIBRARY [--tactics dpoly,interval,nra,psatz,gappa] [--program DPOLY]
-                         [--seconds S] [NAME ..]
+                         [--seconds S] [--jobs N] [--page] [NAME ..]
 
 LIBRARY is `coq/theories` after `make -C coq`. The goals are theorems written from scripts,
 `hypotheses -> conclusion`, where the last assertion is denied as the conclusion. A row of the
 table is printed for each: user seconds without loading Coq's libraries, of the best of a tactic's
 options; `fails`, `> S` where one was stopped after S seconds and none proved the goal, `-` where
 the goal cannot be stated. `dpoly` needs the program, `gappa` the program Gappa and its library
-for Coq, `psatz` csdp."""
+for Coq, `psatz` csdp. With `--page` the table goes into the page, with what it was measured on."""
 import argparse
+import multiprocessing
 import os
 import re
 import resource
+import signal
 import subprocess
 import sys
 import tempfile
 from fractions import Fraction
-from typing import Any, Dict, Iterator, List, NamedTuple, Optional, Tuple
+from glob import glob
+from typing import Any, Dict, Iterator, List, NamedTuple, Tuple
+
+import tables
 
 TOP = os.path.dirname(os.path.dirname(os.path.abspath(__file__)))
 sys.dont_write_bytecode = True
@@ -26,6 +31,7 @@ sys.path.insert(0, os.path.join(TOP, 'python'))
 from dpoly import coq  # noqa: E402
 
 TACTICS = 'dpoly', 'interval', 'nra', 'psatz', 'gappa'
+ARITHMETICS = 'Big', 'Prim'
 # A folder with scripts, and those of its scripts that are goals.
 FOLDERS = {
     'examples': ['lyapunov', 'barrier', 'spiral', 'motzkin', 'means', 'parts', 'circles',
@@ -57,9 +63,14 @@ HEADS = {
     'nra': f'{REALS} Lra Psatz.\n{OPENED}',
     'psatz': f'{REALS} Lra Psatz.\n{OPENED}',
     'gappa': 'From Flocq Require Import Core.\nFrom Gappa Require Import Gappa_library.\n',
-    'dpoly': 'From Coq Require Import ZArith NArith Reals List.\n'
-             'From Dpoly Require Import Statement Certificate Big.\n',
+    **{it: 'From Coq Require Import ZArith NArith Reals List.\n'
+           f'From Dpoly Require Import Statement Certificate {it}.\n' for it in ARITHMETICS},
 }
+
+
+def tenths(seconds: float) -> str:
+    """Loading Coq's libraries differs by hundredths from one time to the next."""
+    return f'{seconds:.1f}' if seconds >= 0.1 else '< 0.1'
 
 
 class Outcome(NamedTuple):
@@ -71,16 +82,37 @@ class Outcome(NamedTuple):
     said: str
 
 
+def seconds_used(session: int) -> float:
+    """User seconds of the processes of a session, and of those that they have waited for."""
+    ticks = 0
+    for path in glob('/proc/[0-9]*/stat'):
+        try:
+            with open(path) as file:
+                fields = file.read().rpartition(')')[2].split()
+        except OSError:
+            continue
+        if int(fields[3]) == session:
+            ticks += int(fields[11]) + int(fields[13])
+    return ticks / os.sysconf('SC_CLK_TCK')
+
+
 def run(command: List[str], folder: str, seconds: float) -> Outcome:
-    """Runs a command with a limit of processor seconds."""
-
-    def limit() -> None:
-        resource.setrlimit(resource.RLIMIT_CPU, (int(seconds) + 1, int(seconds) + 2))
-
+    """Runs a command, and stops it when it and what it calls have taken so many user seconds."""
+    said, is_stopped = os.path.join(folder, 'said'), False
     before = resource.getrusage(resource.RUSAGE_CHILDREN).ru_utime
-    done = subprocess.run(command, cwd=folder, preexec_fn=limit, capture_output=True, text=True)
+    with open(said, 'w') as file:
+        process = subprocess.Popen(command, cwd=folder, stdout=file, stderr=subprocess.DEVNULL,
+                                   start_new_session=True)
+    while process.returncode is None:
+        try:
+            process.wait(0.2)
+        except subprocess.TimeoutExpired:
+            if seconds_used(process.pid) > seconds:
+                is_stopped = True
+                os.killpg(process.pid, signal.SIGKILL)
     used = resource.getrusage(resource.RUSAGE_CHILDREN).ru_utime - before
-    return Outcome(done.returncode == 0, used, done.returncode < 0 or used > seconds, done.stdout)
+    with open(said) as file:
+        return Outcome(process.returncode == 0, used, is_stopped, file.read())
 
 
 class Goal:
@@ -239,17 +271,16 @@ def calls(tactic: str, goal: Goal) -> Iterator[str]:
             for more in (f'i_taylor {it}', f'i_autodiff {it}'):
                 yield f'open_up; {side}; interval with ({options}, {more})'
     else:
-        call = {'nra': 'nra', 'psatz': 'psatz R'}[tactic]
-        case_by_case = f'intuition (try discriminate; {call})'
-        yield f'open_up; {case_by_case if goal.has_bools else call}'
+        for call in ['nra'] if tactic == 'nra' else [f'psatz R {it}' for it in (1, 2, 3)]:
+            case_by_case = f'intuition (try discriminate; {call})'
+            yield f'open_up; {case_by_case if goal.has_bools else call}'
 
 
 class Measure:
-    """Attempts in a folder of their own."""
+    """Attempts in a folder of their own. `loading` has the seconds of each head."""
 
-    def __init__(self, folder: str, library: str, program: Optional[str], seconds: float):
-        self.folder, self.program, self.limit = folder, program, seconds
-        self.library, self.loading = os.path.abspath(library), {}
+    def __init__(self, words: argparse.Namespace, folder: str, loading: Dict[str, float]):
+        self.words, self.limit, self.folder, self.loading = words, words.seconds, folder, loading
 
     def path(self, name: str, content: bytes = b'') -> str:
         found = os.path.join(self.folder, name)
@@ -257,15 +288,15 @@ class Measure:
             file.write(content)
         return found
 
-    def coqc(self, tactic: str, text: str, seconds: float) -> Outcome:
-        """Coq on a text, without the seconds that loading takes."""
-        if tactic not in self.loading:
-            self.loading[tactic] = 0.0
-            heads = [self.coqc(tactic, HEADS[tactic], seconds) for _ in range(3)]
-            self.loading[tactic] = min(it.seconds for it in heads)
-        loading = self.loading[tactic]
-        command = ['coqc', '-q', '-Q', self.library, 'Dpoly', self.path('goal.v', text.encode())]
-        found = run(command, self.folder, seconds + loading)
+    def coqc(self, text: str, seconds: float) -> Outcome:
+        command = ['coqc', '-q', '-Q', os.path.abspath(self.words.library), 'Dpoly',
+                   self.path('goal.v', text.encode())]
+        return run(command, self.folder, seconds)
+
+    def proof(self, head: str, text: str, seconds: float) -> Outcome:
+        """Coq on a text with a head, without the seconds that loading takes."""
+        loading = self.loading[head]
+        found = self.coqc(text, seconds + loading)
         return found._replace(seconds=max(0.0, found.seconds - loading))
 
     def gappa(self, text: str, seconds: float) -> Outcome:
@@ -274,45 +305,96 @@ class Measure:
         found = run(command, self.folder, seconds)
         if not found.is_proved:
             return found
-        proof = self.coqc('gappa', found.said, seconds)
+        proof = self.proof('gappa', found.said, seconds)
         return proof._replace(seconds=found.seconds + proof.seconds)
 
     def attempts(self, tactic: str, goal: Goal) -> Iterator[Outcome]:
         """Each way to try the tactic, stopped where it takes longer than the best one before."""
-        best, head = self.limit, f'{HEADS[tactic]}{OPEN_UP}{goal.statement()}\nProof. '
+        best = self.limit
         for it in gappa_texts(goal) if tactic == 'gappa' else calls(tactic, goal):
             if tactic == 'gappa':
                 found = self.gappa(it, best)
             else:
-                found = self.coqc(tactic, f'{head}{it}. Qed.\n', best)
+                text = f'{HEADS[tactic]}{OPEN_UP}{goal.statement()}\nProof. {it}. Qed.\n'
+                found = self.proof(tactic, text, best)
             if found.is_proved:
                 best = min(best, found.seconds)
             yield found
 
-    def dpoly(self, goal: Goal) -> str:
-        """Lines of the certificate, seconds of the search and of Coq."""
+    def dpoly(self, goal: Goal) -> List[str]:
+        """Lines of the certificate, seconds of the search and of Coq with each arithmetic."""
         script, certificate = self.path('goal.smt2', goal.script), self.path('goal.cert')
         words = ['solve', *OPTIONS.get(goal.name, []), script, certificate]
-        search = run([self.program or 'dpoly', *words], self.folder, 600)
+        search = run([os.path.abspath(self.words.program), *words], self.folder, 600)
         if not search.said.startswith('unsat'):
-            return f"{search.said.split()[0] if search.said else 'fails'} | | "
+            return [search.said.split()[0] if search.said else 'fails', '', '', '']
         with open(certificate, 'rb') as file:
             lines = file.read()
-        proof = self.coqc('dpoly', coq.theorem(goal.script, lines, goal.options), self.limit)
-        seconds = f'{proof.seconds:.2f}' if proof.is_proved else 'fails'
-        return f'{lines.count(10):,} | {search.seconds:.2f} | {seconds}'
+        cells = [f'{lines.count(10):,}', tenths(search.seconds)]
+        for it in ARITHMETICS:
+            text = coq.theorem(goal.script, lines, goal.options._replace(arithmetic=it))
+            cells.append(self.verdict([self.proof(it, text, self.limit)]))
+        return cells
 
-    def cell(self, tactic: str, goal: Goal) -> str:
+    def cells(self, tactic: str, goal: Goal) -> List[str]:
         if tactic == 'dpoly':
             return self.dpoly(goal)
         try:
-            found = list(self.attempts(tactic, goal))
+            return [self.verdict(list(self.attempts(tactic, goal)))]
         except Unstated:
-            return '-'
+            return ['-']
+
+    def verdict(self, found: List[Outcome]) -> str:
         proved = [it.seconds for it in found if it.is_proved]
         if proved:
-            return f'{min(proved):.2f}'
+            return tenths(min(proved))
         return f'> {self.limit:g}' if any(it.is_stopped for it in found) else 'fails'
+
+
+class Job(NamedTuple):
+    """A tactic on a goal of a folder."""
+
+    words: argparse.Namespace
+    loading: Dict[str, float]
+    place: str
+    name: str
+    tactic: str
+
+
+def cells_of(job: Job) -> List[str]:
+    with tempfile.TemporaryDirectory() as folder:
+        measure = Measure(job.words, folder, job.loading)
+        return measure.cells(job.tactic, Goal(job.place, job.name))
+
+
+def load_seconds(words: argparse.Namespace) -> Dict[str, float]:
+    """User seconds in which Coq reads each head, the least of three times."""
+    with tempfile.TemporaryDirectory() as folder:
+        measure = Measure(words, folder, {})
+        return {head: min(measure.coqc(text, 60).seconds for _ in range(3))
+                for head, text in HEADS.items()}
+
+
+def table(words: argparse.Namespace, tactics: List[str]) -> Iterator[List[str]]:
+    """The head of the table and its rows, one after the other."""
+    heads = {'dpoly': ['lines', '`solve`', *(f'`dpoly`, {it}' for it in ARITHMETICS)]}
+    yield ['goal', *(cell for it in tactics for cell in heads.get(it, [f'`{it}`']))]
+    goals = [(place, name) for place, names in FOLDERS.items() for name in names
+             if not words.names or name in words.names]
+    loading = load_seconds(words)
+    jobs = [Job(words, loading, place, name, it) for place, name in goals for it in tactics]
+    with multiprocessing.Pool(words.jobs) as pool:
+        cells = pool.imap(cells_of, jobs)
+        for _, name in goals:
+            yield [name, *(cell for _ in tactics for cell in next(cells))]
+
+
+def proved(rows: List[List[str]]) -> List[str]:
+    """The last row: how many goals are proved in each column of seconds of Coq."""
+    columns = list(zip(*rows))
+    return ['proved'] + ['' if column[0] in ('lines', '`solve`') else
+                         str(sum(bool(re.match('[<0-9]', it)) for it in column[1:]))
+                         for column in columns[1:]]
 
 
 def main() -> None:
@@ -322,19 +404,21 @@ def main() -> None:
     parser.add_argument('--tactics', default=','.join(TACTICS))
     parser.add_argument('--program')
     parser.add_argument('--seconds', type=float, default=30)
+    parser.add_argument('--jobs', type=int, default=1)
+    parser.add_argument('--page', action='store_true')
     parser.add_argument('names', nargs='*')
     words = parser.parse_intermixed_args()
-    program = words.program and os.path.abspath(words.program)
-    tactics = [it for it in words.tactics.split(',') if it != 'dpoly' or program]
-    heads = ['lines | `solve` | `dpoly`' if it == 'dpoly' else f'`{it}`' for it in tactics]
-    print('|', ' | '.join(['goal', *heads]), '|')
-    with tempfile.TemporaryDirectory() as folder:
-        measure = Measure(folder, words.library, program, words.seconds)
-        for place, name in ((place, name) for place, names in FOLDERS.items() for name in names):
-            if not words.names or name in words.names:
-                goal = Goal(place, name)
-                cells = [name, *(measure.cell(it, goal) for it in tactics)]
-                print('|', ' | '.join(cells), '|', flush=True)
+    tactics = [it for it in words.tactics.split(',') if it != 'dpoly' or words.program]
+    rows = []
+    for row in table(words, tactics):
+        rows.append(row)
+        print('|', ' | '.join(row), '|', flush=True)
+    if words.page:
+        run_on = tables.run_on(words.program or words.library, words.jobs,
+                               {'stopped after': f'{words.seconds:g} s'})
+        whole = tables.markdown(rows[0], [*rows[1:], proved(rows)])
+        tables.put('COQ.md', {'tactics-run': run_on, 'tactics': whole})
 
 
-main()
+if __name__ == '__main__':
+    main()

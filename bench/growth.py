@@ -10,10 +10,11 @@ import re
 import subprocess
 import sys
 import tempfile
-from typing import Dict, List, Sequence
+from typing import Dict, Sequence
+
+import tables
 
 TOP = os.path.dirname(os.path.dirname(os.path.abspath(__file__)))
-PAGE = os.path.join(TOP, 'docs', 'LARGE.md')
 BUDGET = 1048576
 # What the term of one variable is at its least, rounded down.
 LEAST = '78.3324'
@@ -57,13 +58,11 @@ def splits(program: str, script: str) -> str:
 
 
 def table(program: str, head: str, names: Sequence[str], scripts: Sequence[str]) -> str:
-    """A table of two rows: what changes, and the splits."""
-    rows: List[Sequence[str]] = [[head, *names], ['---'] * (len(names) + 1),
-                                 ['splits', *(splits(program, it) for it in scripts)]]
-    return ''.join('| ' + ' | '.join(row) + ' |\n' for row in rows).replace('| --- ', '|---')
+    """A table of one row: what changes, and the splits."""
+    return tables.markdown([head, *names], [['splits', *(splits(program, it) for it in scripts)]])
 
 
-def tables(program: str) -> Dict[str, str]:
+def measured(program: str) -> Dict[str, str]:
     """All tables, by their marks."""
     gaps = ['4', '2', '1', '1/2', '1/4', '1/8', '1/16']
     small = ['1/8', '1/16', '1/32', '1/64', '1/128', '1/256']
@@ -87,19 +86,5 @@ def tables(program: str) -> Dict[str, str]:
     }
 
 
-def main() -> None:
-    """Puts each table behind its mark."""
-    with open(PAGE, encoding='utf-8') as file:
-        text = file.read()
-    for name, rows in tables(sys.argv[1]).items():
-        mark = f'<!-- table: {name} -->\n'
-        if mark not in text:
-            sys.exit(f'growth: docs/LARGE.md has no mark for {name}')
-        before, _, behind = text.partition(mark)
-        text = before + mark + rows + re.sub(r'\A(?:\|.*\n)*', '', behind)
-    with open(PAGE, 'w', encoding='utf-8') as file:
-        file.write(text)
-
-
 if __name__ == '__main__':
-    main()
+    tables.put('LARGE.md', measured(sys.argv[1]))

@@ -5,10 +5,10 @@ from __future__ import annotations
 
 import math
 import os
-import re
 from typing import Callable, Iterable, Optional
 
 import pictures
+import tables
 from goals import GOALS
 from made import MEMORY, READING
 from parts import CHECK, SETS, SOLVE, SOLVED
@@ -18,9 +18,6 @@ from sets import OWN
 from workers import SMALL, WORKERS
 from workers_sim import MODEL
 
-HERE = os.path.dirname(os.path.abspath(__file__))
-DOCS = os.path.join(HERE, '..', 'docs')
-PAGE = os.path.join(DOCS, 'PERFORMANCE.md')
 LIMIT = 20.0  # processor seconds of a solver
 WORTH = 0.1  # seconds from which a row stands in the tables of times
 NAMES = {'dpoly': 'dpoly', 'rule': 'plain, same rule', 'plain': 'plain'}
@@ -37,13 +34,6 @@ CLUSTER_MODEL = Results(
 )
 
 Table = tuple[list[str], list[list[str]]]
-
-
-def markdown(table: Table) -> str:
-    head, rows = table
-    lines = ['| ' + ' | '.join(head) + ' |', '|' + '---|' * len(head)]
-    lines += ['| ' + ' | '.join(row) + ' |' for row in rows]
-    return '\n'.join(lines)
 
 
 def mean(values: list[float]) -> float:
@@ -322,15 +312,7 @@ TABLES: dict[str, Callable[[], Table]] = {
 
 def write() -> None:
     """Writes the tables of the page and the pictures anew."""
-    with open(PAGE, encoding='utf-8') as file:
-        text = file.read()
-
-    def table(found: re.Match[str]) -> str:
-        return f'{found[1]}\n{markdown(TABLES[found[2]]())}\n'
-
-    text = re.sub(r'(<!-- table: ([\w-]+) -->)\n(?:\|.*\n)*', table, text)
-    with open(PAGE, 'w', encoding='utf-8') as file:
-        file.write(text)
+    tables.put('PERFORMANCE.md', {name: tables.markdown(*it()) for name, it in TABLES.items()})
     draw()
 
 
@@ -369,7 +351,7 @@ def speedup_lines() -> dict[str, list[pictures.Point]]:
 
 
 def save(name: str, text: str) -> None:
-    with open(os.path.join(DOCS, name), 'w', encoding='utf-8') as file:
+    with open(os.path.join(tables.DOCS, name), 'w', encoding='utf-8') as file:
         file.write(text)
 
 
