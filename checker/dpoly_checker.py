@@ -490,8 +490,7 @@ def limited(problem: Problem, bits: int, bound: End) -> Problem:
     whole, rest = divmod(bound << bits, UNIT) if is_number else (0, 1)
     constants = [('constant', Fraction(2**bits)), ('constant', Fraction(-whole))]
     are_new = len(set(constants) - set(problem.terms.numbers)) == 2
-    has_room = (len(problem.terms.parts) <= 1048572 and len(problem.atoms) < 65536 and
-                len(problem.forms) + problem.places <= 1048572)
+    has_room = len(problem.terms.parts) <= 1048572 and len(problem.atoms) < 65536
     if rest or not are_new or abs(whole) > WIDEST or not has_room:
         raise CertificateFault('BadHeader')
     found, found.terms = copy(problem), Terms()

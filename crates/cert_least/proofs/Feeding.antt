@@ -5,7 +5,7 @@ use Rattle.cert_read.specs.CertLine.{parsed}
 use Rattle.cert_read.specs.Reading.{lines_ahead, fed}
 use Rattle.cert_read.specs.State.{Reading}
 use Rattle.cert_model.specs.Accepted.{most_bytes, accepted, refused}
-use Rattle.cert_model.specs.Limited.{has_room}
+use Rattle.goal_limit.specs.Limits.{has_room}
 use Rattle.cert_model.specs.Least.{GoalVerdict, goal_verdict}
 use Rattle.cert_check.specs.declared.fault.CertFault.{CertFault}
 use Rattle.cert_check.specs.declared.fault.CertFault.TheVariants.{Memory}
@@ -112,7 +112,7 @@ verdict-or a v (Err f) (inr h) = inr (refusal v h) where
   refusal (refused g n) h = h
 
 pub ends_here : (p : Parts) (g : ℕ) (bound : Option ℕ) (bytes : List ℕ) (old : GoalFeed) (c : GoalChecked) (r : Result told.GoalVerdict CertFault)
-    → HasTaken p g bound bytes old → old.taken ≤ most_bytes → IsEnded old c → Finishes c.aim c.course r → IsVerdictOrMemory (aim_at p g bound) (goal_verdict (problem_of p) g (has_room p) bound bytes) r
+    → HasTaken p g bound bytes old → old.taken ≤ most_bytes → IsEnded old c → Finishes c.aim c.course r → IsVerdictOrMemory (aim_at p g bound) (goal_verdict (problem_of p) g (has_room (problem_of p)) bound bytes) r
 ends_here p g bound bytes old c r has few ended finishes =
     let a : Aim = aim_at p g bound in
     let is = ended a bytes has in

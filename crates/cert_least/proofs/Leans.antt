@@ -9,7 +9,7 @@ use Rattle.cover_model.specs.Rules.{Line, open_line}
 use Rattle.cert_read.specs.CertLine.{CertLine, point_word, rule_line, over, Parsed, too_long, bad_line, bad_number, line}
 use Rattle.cert_model.specs.Due.{Standing, OverFails, at_point, left_open, Due, version_due, kind_due, root_due, tree_due, end_due, nothing_due, Next, on, faulty}
 use Rattle.cert_model.specs.Accepted.{next}
-use Rattle.cert_model.specs.Limited.{has_room}
+use Rattle.goal_limit.specs.Limits.{has_room}
 use Rattle.cert_model.specs.Least.{header_due, lower_due, cover_due, in_cover_due, covered_due, in_point_due, shown_due, in_header, in_cover, in_point, is_over, tree_space, over_line, leaves_open, leaf_line, cover_line, searched, GoalDue, plain_due, least_due, as_plain, as_least, goal_next}
 use Rattle.cert_check.specs.Dues.{lean, lean_next, next_map}
 use Rattle.cert_check.proofs.Leans.{next_lean}
@@ -106,4 +106,4 @@ pub step_lean : (a : Aim) (d : GoalDue) (l : Parsed) → next_map lean_goal (aim
 step_lean a d too_long = refl
 step_lean a d bad_line = refl
 step_lean a d bad_number = refl
-step_lean a d (line l) = goal_lean (problem_of a.problem) a.goal (has_room a.problem) a.bound d l
+step_lean a d (line l) = goal_lean (problem_of a.problem) a.goal (has_room (problem_of a.problem)) a.bound d l

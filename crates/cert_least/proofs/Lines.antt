@@ -15,7 +15,7 @@ use Rattle.cert_read.specs.CertLine.{CertLine, version, margin, delta, bound, lo
 use Rattle.cert_model.specs.Due.{BadHeader, WrongBound, NotShown, RuleFails, OverFails, BadNumber, at_point, left_open, Due, version_due, margin_due, delta_due, bound_due, kind_due, root_due, tree_due, coordinate_due, end_due, nothing_due, Next, on, faulty, given, names_well, is_version, same_bound, is_shown, coordinate_next, is_crossed_box}
 use Rattle.cert_model.specs.Due as due
 use Rattle.cert_model.specs.Accepted.{next, ruled_line, loosenings_fit, is_header, coordinate_line}
-use Rattle.cert_model.specs.Limited.{has_room}
+use Rattle.goal_limit.specs.Limits.{has_room}
 use Rattle.cert_model.specs.Least.{header_due, lower_due, cover_due, in_cover_due, covered_due, in_header, in_cover, in_point, is_over, can_limit, searched, tree_space, over_line, leaves_open, leaf_line, GoalNext, plain_due, least_due, as_plain, as_least}
 use Rattle.cert_check.specs.declared.fault.CertFault.{CertFault}
 use Rattle.cert_check.specs.declared.loosenings.Loosenings as code
@@ -197,7 +197,7 @@ module _ (a : Aim) where
   abbrev Limit : Option Dy → ℕ → Due → GoalNext
   Limit e k d = aim_next a (least_due (cover_at (option_map dyadic_of e) None d)) (goal k)
 
-  limit-is : (s : Loosenings) (e : Option Dy) (k : ℕ) (d : Due) (t : Bool) → IsKindDue s d → can_limit P (has_room a.problem) (option_map dyadic_of e) k ≡ t →
+  limit-is : (s : Loosenings) (e : Option Dy) (k : ℕ) (d : Due) (t : Bool) → IsKindDue s d → can_limit P (has_room (problem_of a.problem)) (option_map dyadic_of e) k ≡ t →
       Limit e k d ≡ as_least (cond t (on (cover_due s (option_map dyadic_of e) (Some k))) (faulty BadHeader))
   limit-is s e k (kind_due s') t h c =
       ap (λ (u : Bool). as_least (cond u (on (cover_due s' (option_map dyadic_of e) (Some k))) (faulty BadHeader))) c

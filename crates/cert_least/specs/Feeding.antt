@@ -1,7 +1,7 @@
 -- A certificate of a script with a goal that comes by pieces, and its verdict.
 use Rattle.std.specs.Prelude.{◌≡◌, ◌++◌, ℕ, List, false, true, Option, Result, Ok, Err, length}
 use Rattle.poly_graph.specs.ProblemViews.{Parts, problem_of}
-use Rattle.cert_model.specs.Limited.{has_room}
+use Rattle.goal_limit.specs.Limits.{has_room}
 use Rattle.cert_model.specs.Least.{GoalVerdict, goal_verdict}
 use Rattle.cert_check.specs.declared.fault.CertFault.{CertFault}
 use Rattle.cert_check.specs.Feeding.{IsRefusalOrMemory}
@@ -48,4 +48,4 @@ IsEnded old c = (a : Aim) (bytes : List ℕ) → HasTakenFor a bytes old → (c.
 -- the verdict of all that was taken
 abbrev pub IsVerdictOfTaken : GoalFeed → Result code.GoalVerdict CertFault → Type 0
 IsVerdictOfTaken old r =
-    (p : Parts) (g : ℕ) (bound : Option ℕ) (bytes : List ℕ) → HasTaken p g bound bytes old → IsVerdictOrMemory (aim_at p g bound) (goal_verdict (problem_of p) g (has_room p) bound bytes) r
+    (p : Parts) (g : ℕ) (bound : Option ℕ) (bytes : List ℕ) → HasTaken p g bound bytes old → IsVerdictOrMemory (aim_at p g bound) (goal_verdict (problem_of p) g (has_room (problem_of p)) bound bytes) r

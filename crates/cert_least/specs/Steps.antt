@@ -14,7 +14,7 @@ use Rattle.cert_read.specs.CertLine.{CertLine, goal, over, point_word, Parsed, l
 use Rattle.cert_model.specs.Due.{Due, kind_due, NextOf, on, faulty, RuleFails, BadNumber, names_well}
 use Rattle.cert_model.specs.Due as due
 use Rattle.cert_model.specs.Accepted.{next, stopped}
-use Rattle.cert_model.specs.Limited.{has_room}
+use Rattle.goal_limit.specs.Limits.{has_room}
 use Rattle.cert_model.specs.Least.{GoalCourse, GoalNext, can_limit, searched, tree_space}
 use Rattle.cert_check.specs.declared.fault.CertFault.{CertFault}
 use Rattle.cert_check.specs.declared.fault.CertFault.TheVariants as numbered
@@ -122,9 +122,9 @@ IsAimNext a phase old l new r = IsPhaseNext (aim_of a) phase old l new r
 
 -- the problem with the bound as a limit of the goal in k bits, exactly where there can be one
 abbrev pub IsLimitBy : Aim → Option Dyadic → ℕ → Option Parts → Type 0
-IsLimitBy a low k None = can_limit (problem_of a.problem) (has_room a.problem) low k ≡ false
+IsLimitBy a low k None = can_limit (problem_of a.problem) (has_room (problem_of a.problem)) low k ≡ false
 IsLimitBy a low k (Some r) =
-    (can_limit (problem_of a.problem) (has_room a.problem) low k ≡ true) × (problem_of r ≡ searched (problem_of a.problem) a.goal low (Some k))
+    (can_limit (problem_of a.problem) (has_room (problem_of a.problem)) low k ≡ true) × (problem_of r ≡ searched (problem_of a.problem) a.goal low (Some k))
 
 -- a checker of this problem that took the header, and this phase reached; or there was no memory
 abbrev pub IsBegun : Problem → Option ℕ → Told → Phase → Checked → Result Phase CertFault → Type 0

@@ -3,17 +3,13 @@
 -- The limit says that the goal is at most d, a multiple of 2^-k: there is one more atom, 2^k * t - n at most 0, where t is the goal and n is
 -- 2^k * d, and the form asks for it too. Loosened by m it says that the goal is at most d + m / 2^k. Its two constants are new, so
 -- that each node of the graph stands once.
-use Rattle.std.specs.Prelude.{◌≡◌, ℕ, ◌+◌, ◌-◌, ◌*◌, ◌/◌, ◌^◌, List, [], ◌∷◌, ◌++◌, length, Bool, false, not, ◌&&◌, ◌||◌, ℤ, pos, negsuc, neg_ℤ, nat_abs, nat_eq, nat_le}
+use Rattle.std.specs.Prelude.{ℕ, ◌+◌, ◌-◌, ◌*◌, ◌/◌, ◌^◌, List, [], ◌∷◌, ◌++◌, length, Bool, false, not, ◌&&◌, ◌||◌, ℤ, pos, negsuc, neg_ℤ, nat_abs, nat_eq, nat_le}
 use Rattle.std.specs.Ordering.{int_eq}
 use Rattle.dyadic.specs.Fraction.{Fraction, whole}
 use Rattle.dyadic.specs.Rounding.{Dyadic}
 use Rattle.poly_graph.specs.Term.{Node, constant_node, multiply_node, add_node, le}
 use Rattle.poly_graph.specs.Form.{atom_is, all_form, no_forms, more_forms}
-use Rattle.poly_graph.specs.FormGraph.{FormNode, atom_node, forms_size, most_forms}
-use Rattle.poly_graph.specs.Shared.{most_nodes}
-use Rattle.poly_graph.specs.AtomTable.{most_atoms}
 use Rattle.poly_graph.specs.Problem.{Problem, atom_at}
-use Rattle.poly_graph.specs.ProblemViews.{Parts, problem_of}
 
 -- ---- the constants
 
@@ -66,22 +62,3 @@ with_limit p g scale offset = record {
 
 abbrev pub limited : Problem → ℕ → ℕ → Dyadic → Problem
 limited p g k d = with_limit p g (scale_of k) (offset_of k d)
-
--- ---- its shared form
-
-abbrev pub names_atom : ℕ → FormNode → Bool
-names_atom j (atom_node k) = nat_eq j k
-names_atom j n = false
-
-abbrev pub have_atom : List FormNode → ℕ → Bool
-have_atom [] j = false
-have_atom (n ∷ nodes) j = names_atom j n || have_atom nodes j
-
--- there is room for a limit in the graph, among the atoms and in the shared form, and no node of that names the new atom
-abbrev pub has_room : Parts → Bool
-has_room q =
-    nat_le (length q.nodes + 4) most_nodes && nat_le (length q.atoms + 1) most_atoms && nat_le (forms_size q.forms + 4) most_forms && not (have_atom q.forms (length q.atoms))
-
--- whether there is room, where the problem is kept in this shared form
-abbrev pub IsRoomOf : Problem → Bool → Type 0
-IsRoomOf p room = (q : Parts) × (problem_of q ≡ p) × (has_room q ≡ room)

@@ -1,5 +1,5 @@
 -- From a certificate of a script with a goal on its port to the end of a run.
-use Rattle.std.proofs.Common.{◌≡◌, ◌<◌, ◌≤◌, ◌++◌, ℕ, List, [], ◌∷◌, Option, Some, None, Result, Ok, Err, IfSome, length, take, drop, refl, ap, sym, ◌∙◌, subst, inl, inr, take-append-drop}
+use Rattle.std.proofs.Common.{◌≡◌, ◌<◌, ◌≤◌, ◌++◌, ℕ, List, [], ◌∷◌, Option, Some, None, Result, Ok, Err, IfSome, length, take, drop, ap, sym, ◌∙◌, subst, inl, inr, take-append-drop}
 use Rattle.std.specs.Prelude.{Bool, map, slice_get}
 use Rattle.std.specs.Option.{option_map}
 use Rattle.std.proofs.lemmas.Option.{none-some, same_Some}
@@ -16,7 +16,7 @@ use Rattle.cert_read.specs.LineText.{lower_text}
 use Rattle.cert_model.specs.Accepted.{accepted, refused}
 use Rattle.cert_model.specs.AnswerText.{upper_line, text_line, verdict_text}
 use Rattle.cert_model.specs.Least.{GoalVerdict, plain, least, goal_verdict, upper_at}
-use Rattle.cert_model.specs.Limited.{has_room}
+use Rattle.goal_limit.specs.Limits.{has_room}
 use Rattle.cert_check.specs.declared.checker.Verdict.{Verdict}
 use Rattle.cert_check.specs.declared.fault.CertFault.{CertFault}
 use Rattle.cert_check.specs.Courses.{IsRefusal}
@@ -52,7 +52,7 @@ pub record GoalCheckedSoFar (p : Parts) (g : ℕ) (bound : Option ℕ) (f : Goal
 -- nothing is told of a certificate whose port failed
 pub goal_check_fails : (p : Parts) (g : ℕ) (bound : Option ℕ) (old : Sight) → IsGoalVerdictFor p g bound old (Err Failed)
 goal_check_fails p g bound old = told-of old.cert_in where
-  told-of : (o : Option (List ℕ)) → IfSome o (λ (cert : List ℕ). IsGoalVerdictOnPort (aim_at p g bound) (goal_verdict (problem_of p) g (has_room p) bound cert) (Err Failed))
+  told-of : (o : Option (List ℕ)) → IfSome o (λ (cert : List ℕ). IsGoalVerdictOnPort (aim_at p g bound) (goal_verdict (problem_of p) g (has_room (problem_of p)) bound cert) (Err Failed))
   told-of None = tt
   told-of (Some cert) = tt
 
@@ -69,11 +69,11 @@ module _ (p : Parts) (g : ℕ) (bound : Option ℕ) (f : GoalFeed) (n : ℕ) (bu
   }
 
   pub goal_check_end : (r : Result told.GoalVerdict CertFault) → n ≡ 0 → 0 < length buffer → GoalCheckedSoFar p g bound f old now → ReadStep CertIn n buffer now new
-      → ((q : Parts) (h : ℕ) (b : Option ℕ) (bs : List ℕ) → HasTaken q h b bs f → IsVerdictOrMemory (aim_at q h b) (goal_verdict (problem_of q) h (has_room q) b bs) r) → IfSome old.cert_in (λ cert. IsVerdictOrMemory (aim_at p g bound) (goal_verdict (problem_of p) g (has_room p) bound cert) r)
+      → ((q : Parts) (h : ℕ) (b : Option ℕ) (bs : List ℕ) → HasTaken q h b bs f → IsVerdictOrMemory (aim_at q h b) (goal_verdict (problem_of q) h (has_room (problem_of q)) b bs) r) → IfSome old.cert_in (λ cert. IsVerdictOrMemory (aim_at p g bound) (goal_verdict (problem_of p) g (has_room (problem_of p)) bound cert) r)
   goal_check_end r none room so_far step tells =
       let all = read_end CertIn n so_far.bytes buffer old now new none room so_far.read step in
-      over (λ (held : List ℕ). so_far.bytes ≡ held) (λ (cert : List ℕ). IsVerdictOrMemory (aim_at p g bound) (goal_verdict (problem_of p) g (has_room p) bound cert) r) old.cert_in all.all
-      (λ held e. subst (λ (bs : List ℕ). IsVerdictOrMemory (aim_at p g bound) (goal_verdict (problem_of p) g (has_room p) bound bs) r) e (tells p g bound so_far.bytes so_far.has))
+      over (λ (held : List ℕ). so_far.bytes ≡ held) (λ (cert : List ℕ). IsVerdictOrMemory (aim_at p g bound) (goal_verdict (problem_of p) g (has_room (problem_of p)) bound cert) r) old.cert_in all.all
+      (λ held e. subst (λ (bs : List ℕ). IsVerdictOrMemory (aim_at p g bound) (goal_verdict (problem_of p) g (has_room (problem_of p)) bound bs) r) e (tells p g bound so_far.bytes so_far.has))
 
   pub goal_check_whole : n ≡ 0 → 0 < length buffer → GoalCheckedSoFar p g bound f old now → ReadStep CertIn n buffer now new → new.cert_in ≡ option_map (λ (cert : List ℕ). []) old.cert_in
   goal_check_whole none room so_far step =
@@ -81,15 +81,15 @@ module _ (p : Parts) (g : ℕ) (bound : Option ℕ) (f : GoalFeed) (n : ℕ) (bu
       ap (λ (d : Sight). d.cert_in) all.rest ∙ none_left_of so_far.bytes old.cert_in all.all
 
   pub goal_check_fault : (x : CertFault) → GoalCheckedSoFar p g bound f old now → ReadStep CertIn n buffer now new
-      → ((a : Aim) (bs : List ℕ) → HasTakenFor a bs f → (rest : List ℕ) → IsRefusalOrMemory (goal_verdict (problem_of a.problem) a.goal (has_room a.problem) a.bound ((bs ++ take n buffer) ++ rest)) x)
-      → IfSome old.cert_in (λ cert. IsRefusalOrMemory (goal_verdict (problem_of p) g (has_room p) bound cert) x)
+      → ((a : Aim) (bs : List ℕ) → HasTakenFor a bs f → (rest : List ℕ) → IsRefusalOrMemory (goal_verdict (problem_of a.problem) a.goal (has_room (problem_of a.problem)) a.bound ((bs ++ take n buffer) ++ rest)) x)
+      → IfSome old.cert_in (λ cert. IsRefusalOrMemory (goal_verdict (problem_of p) g (has_room (problem_of p)) bound cert) x)
   goal_check_fault x so_far step tells =
       let bytes : List ℕ = so_far.bytes ++ take n buffer in
       let front = (read_step CertIn n so_far.bytes buffer old now new so_far.read step).front in
-      over (λ (held : List ℕ). (length bytes ≤ length held) × (bytes ≡ take (length bytes) held)) (λ (cert : List ℕ). IsRefusalOrMemory (goal_verdict (problem_of p) g (has_room p) bound cert) x) old.cert_in front
+      over (λ (held : List ℕ). (length bytes ≤ length held) × (bytes ≡ take (length bytes) held)) (λ (cert : List ℕ). IsRefusalOrMemory (goal_verdict (problem_of p) g (has_room (problem_of p)) bound cert) x) old.cert_in front
       (λ held e.
       let whole : bytes ++ drop (length bytes) held ≡ held = ap (λ (l : List ℕ). l ++ drop (length bytes) held) e.1 ∙ take-append-drop (length bytes) held in
-      subst (λ (bs : List ℕ). IsRefusalOrMemory (goal_verdict (problem_of p) g (has_room p) bound bs) x) whole (tells (aim_at p g bound) so_far.bytes so_far.has (drop (length bytes) held)))
+      subst (λ (bs : List ℕ). IsRefusalOrMemory (goal_verdict (problem_of p) g (has_room (problem_of p)) bound bs) x) whole (tells (aim_at p g bound) so_far.bytes so_far.has (drop (length bytes) held)))
 
 -- ---- the texts of verdicts
 
@@ -137,22 +137,22 @@ goal_concluded p g v status text bytes old new result e e' ends =
 
 module _ (p : Parts) (g : ℕ) (bound : Option ℕ) (name : List ℕ) where
   pub goal_checked : (r : Result told.GoalVerdict CertFault) (old first mid new : Sight) (status : Status) → first ≡ with_start CertIn name old → ReadsSome CertIn first mid
-      → IfSome first.cert_in (λ cert. IsVerdictOrMemory (aim_at p g bound) (goal_verdict (problem_of p) g (has_room p) bound cert) r) → ((a : Aim) (v : GoalVerdict) → IsVerdictOrMemory a v r → RunEnds (IsGoalCourseOf (problem_of a.problem) a.goal v) [] mid new status)
-      → IfSome old.cert_in (λ cert. RunEnds (CanCheckGoal (problem_of p) g (has_room p) bound name cert) ((CertIn, name) ∷ []) old new status)
+      → IfSome first.cert_in (λ cert. IsVerdictOrMemory (aim_at p g bound) (goal_verdict (problem_of p) g (has_room (problem_of p)) bound cert) r) → ((a : Aim) (v : GoalVerdict) → IsVerdictOrMemory a v r → RunEnds (IsGoalCourseOf (problem_of a.problem) a.goal v) [] mid new status)
+      → IfSome old.cert_in (λ cert. RunEnds (CanCheckGoal (problem_of p) g (has_room (problem_of p)) bound name cert) ((CertIn, name) ∷ []) old new status)
   goal_checked r old first mid new status started some tells ends =
-      over (λ (cert : List ℕ). IsVerdictOrMemory (aim_at p g bound) (goal_verdict (problem_of p) g (has_room p) bound cert) r) (λ (cert : List ℕ). RunEnds (CanCheckGoal (problem_of p) g (has_room p) bound name cert) ((CertIn, name) ∷ []) old new status) old.cert_in
-      (subst (λ (o : Option (List ℕ)). IfSome o (λ cert. IsVerdictOrMemory (aim_at p g bound) (goal_verdict (problem_of p) g (has_room p) bound cert) r)) (ap (λ (d : Sight). d.cert_in) started) tells)
+      over (λ (cert : List ℕ). IsVerdictOrMemory (aim_at p g bound) (goal_verdict (problem_of p) g (has_room (problem_of p)) bound cert) r) (λ (cert : List ℕ). RunEnds (CanCheckGoal (problem_of p) g (has_room (problem_of p)) bound name cert) ((CertIn, name) ∷ []) old new status) old.cert_in
+      (subst (λ (o : Option (List ℕ)). IfSome o (λ cert. IsVerdictOrMemory (aim_at p g bound) (goal_verdict (problem_of p) g (has_room (problem_of p)) bound cert) r)) (ap (λ (d : Sight). d.cert_in) started) tells)
       (λ cert h.
-      run_behind (IsGoalCourseOf (problem_of p) g (goal_verdict (problem_of p) g (has_room p) bound cert)) (CanCheckGoal (problem_of p) g (has_room p) bound name cert) (CertIn, name) [] old mid new status (after_cert_in name old first mid started some)
-      (λ tail can. ap (λ (c : Course). behind ((CertIn, name) ∷ []) c) can) (ends (aim_at p g bound) (goal_verdict (problem_of p) g (has_room p) bound cert) h))
+      run_behind (IsGoalCourseOf (problem_of p) g (goal_verdict (problem_of p) g (has_room (problem_of p)) bound cert)) (CanCheckGoal (problem_of p) g (has_room (problem_of p)) bound name cert) (CertIn, name) [] old mid new status (after_cert_in name old first mid started some)
+      (λ tail can. ap (λ (c : Course). behind ((CertIn, name) ∷ []) c) can) (ends (aim_at p g bound) (goal_verdict (problem_of p) g (has_room (problem_of p)) bound cert) h))
 
--- by its shared form there is room for a limit or not
-room-told : (q : Parts) (e : Bool) (g : ℕ) (bound : Option ℕ) (name : List ℕ) (old new : Sight) (status : Status) → EndsOnGoal q g bound name old new status → EndsOnCheck (Some g) ((q, e) ∷ []) bound name old new status
-room-told q e g bound name old new status ends =
-    let some : List ℕ → Course → Type 0 = λ cert. CanCheckGoal (problem_of q) g (has_room q) bound name cert in
+-- a script with one check
+only-told : (q : Parts) (e : Bool) (g : ℕ) (bound : Option ℕ) (name : List ℕ) (old new : Sight) (status : Status) → EndsOnGoal q g bound name old new status → EndsOnCheck (Some g) ((q, e) ∷ []) bound name old new status
+only-told q e g bound name old new status ends =
+    let some : List ℕ → Course → Type 0 = λ cert. CanCheckGoal (problem_of q) g (has_room (problem_of q)) bound name cert in
     let cant : List ℕ → Course → Type 0 = λ cert. CanCheck (Some g) ((problem_of q, e) ∷ []) bound name cert in
     over (λ (cert : List ℕ). RunEnds (some cert) ((CertIn, name) ∷ []) old new status) (λ (cert : List ℕ). RunEnds (cant cert) ((CertIn, name) ∷ []) old new status) old.cert_in ends
-    (λ cert h. widen (some cert) (cant cert) ((CertIn, name) ∷ []) old new status (λ course can. (has_room q, (q, refl, refl), can)) h)
+    (λ cert h. widen (some cert) (cant cert) ((CertIn, name) ∷ []) old new status (λ course can. can) h)
 
 -- the problem of the only check is the first
 pub goal_ends : (session : List (Parts × Bool)) (goal : Option ℕ) (g : ℕ) (p : Parts) → goal ≡ Some g → IsGoalOf goal session → slice_get (map (λ (q : Parts × Bool). q.0) session) 0 ≡ Some p
@@ -161,5 +161,5 @@ goal_ends session goal g p some is at bound name old new status ends =
     subst (λ (o : Option ℕ). EndsOnCheck o session bound name old new status) (sym some) (of-session session (subst (λ (o : Option ℕ). IsGoalOf o session) some is) at) where
       of-session : (session : List (Parts × Bool)) → IsGoalOf (Some g) session → slice_get (map (λ (q : Parts × Bool). q.0) session) 0 ≡ Some p → EndsOnCheck (Some g) session bound name old new status
       of-session [] h at = absurd h
-      of-session ((q, e) ∷ []) h at = room-told q e g bound name old new status (subst (λ (r : Parts). EndsOnGoal r g bound name old new status) (sym (same_Some q p at)) ends)
+      of-session ((q, e) ∷ []) h at = only-told q e g bound name old new status (subst (λ (r : Parts). EndsOnGoal r g bound name old new status) (sym (same_Some q p at)) ends)
       of-session (q ∷ r ∷ rest) h at = absurd h

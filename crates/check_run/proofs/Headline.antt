@@ -11,7 +11,7 @@ use Rattle.cert_model.specs.Due.{Standing, Value, at_point, left_open}
 use Rattle.cert_model.specs.Accepted.{accepted, refused, IsAccepted}
 use Rattle.cert_model.specs.AnswerText.{solve_text, check_text, least_text, unsat_text, has_open}
 use Rattle.cert_model.specs.Least.{Least, GoalVerdict, plain, least, goal_verdict}
-use Rattle.cert_model.specs.Limited.{IsRoomOf}
+use Rattle.goal_limit.specs.Limits.{has_room}
 use Rattle.cert_model.proofs.PlainGoal.{plain_accepted}
 use Rattle.cert_model.specs.Session.{AreAccepted, SessionVerdict, one_verdict, session_verdict}
 use Rattle.headline.proofs.Headline.{unsat_is}
@@ -150,17 +150,17 @@ confirmed-by bound script cert_in old new ps course has wrote so = record {
 }
 
 -- of a script with a goal
-goal-checked : (bound : Option ℕ) (script name cert_in : List ℕ) (old new : Sight) (g : ℕ) → goal_in bound script ≡ Some g → (p : Problem) (e : Bool) → HasSession bound ((p, e) ∷ []) script → IsBuilt bound script p → (room : Bool) → IsRoomOf p room →
-    (course : Course) (v : GoalVerdict) → goal_verdict p g room bound cert_in ≡ v → course ≡ behind ((CertIn, name) ∷ []) (goal_course p g v) → course.status ≡ Answered → new.answer ≡ appended old.answer course.answer →
+goal-checked : (bound : Option ℕ) (script name cert_in : List ℕ) (old new : Sight) (g : ℕ) → goal_in bound script ≡ Some g → (p : Problem) (e : Bool) → HasSession bound ((p, e) ∷ []) script → IsBuilt bound script p →
+    (course : Course) (v : GoalVerdict) → goal_verdict p g (has_room p) bound cert_in ≡ v → course ≡ behind ((CertIn, name) ∷ []) (goal_course p g v) → course.status ≡ Answered → new.answer ≡ appended old.answer course.answer →
     IsConfirmed bound script cert_in old new ⊎ IsConfirmedLeast bound script cert_in old new
-goal-checked bound script name cert_in old new g is p e has built room is_room course (accepted s (plain v)) accepts can status wrote =
+goal-checked bound script name cert_in old new g is p e has built course (accepted s (plain v)) accepts can status wrote =
     inl (confirmed-by bound script cert_in old new ((p, e) ∷ []) course has wrote (record {
       s = s;
       values = v ∷ [];
-      accepts = ap one_verdict (plain_accepted p g room bound cert_in s v accepts);
+      accepts = ap one_verdict (plain_accepted p g (has_room p) bound cert_in s v accepts);
       answer_is = ap (λ (c : Course). c.answer) can ∙ sym (append-nil (check_text s v));
     }))
-goal-checked bound script name cert_in old new g is p e has built room is_room course (accepted s (least x)) accepts can status wrote =
+goal-checked bound script name cert_in old new g is p e has built course (accepted s (least x)) accepts can status wrote =
     let atom = goal_is bound script g is in
     inr (record {
       problem = p;
@@ -169,26 +169,24 @@ goal-checked bound script name cert_in old new g is p e has built room is_room c
       is_goal = is;
       loosenings = s;
       value = x;
-      room = room;
-      is_room = is_room;
       accepted = accepts;
       answer = wrote ∙ ap (λ (c : Course). appended old.answer c.answer) can;
-      lower = lower_means bound (commands_of bound script) p built.whole built.problem g atom room cert_in s x accepts;
+      lower = lower_means bound (commands_of bound script) p built.whole built.problem g atom (has_room p) cert_in s x accepts;
       upper = λ space kept.
-          let h = upper_means bound (commands_of bound script) p built.whole built.problem g atom room cert_in s x accepts space kept in
+          let h = upper_means bound (commands_of bound script) p built.whole built.problem g atom (has_room p) cert_in s x accepts space kept in
           (record { satisfies = h.0; near = h.1 }, h.2);
     })
-goal-checked bound script name cert_in old new g is p e has built room is_room course (refused f n) accepts can status wrote = absurd (certificate-refused-not course.status (ap (λ (c : Course). c.status) can) status)
+goal-checked bound script name cert_in old new g is p e has built course (refused f n) accepts can status wrote = absurd (certificate-refused-not course.status (ap (λ (c : Course). c.status) can) status)
 
 check-by : (bound : Option ℕ) (script name cert_in : List ℕ) (old new : Sight) (goal : Option ℕ) → goal_in bound script ≡ goal → (ps : List (Problem × Bool)) → HasSession bound ps script → (course : Course) → CanCheck goal ps bound name cert_in course →
     course.status ≡ Answered → new.answer ≡ appended old.answer course.answer → IsConfirmed bound script cert_in old new ⊎ IsConfirmedLeast bound script cert_in old new
 check-by bound script name cert_in old new None is ps has course can status wrote =
-    inl (confirmed-by bound script cert_in old new ps course has wrote (checked-by ps bound name cert_in course (session_verdict ps bound cert_in) refl can.2 status))
+    inl (confirmed-by bound script cert_in old new ps course has wrote (checked-by ps bound name cert_in course (session_verdict ps bound cert_in) refl can status))
 check-by bound script name cert_in old new (Some g) is ps has course can status wrote =
     let x = one_problem bound script (goal_has_one bound script g is) ps has in
     let so : CanCheck (Some g) ((x.problem, x.extends) ∷ []) bound name cert_in course = subst (λ (ys : List (Problem × Bool)). CanCheck (Some g) ys bound name cert_in course) x.only can in
-    goal-checked bound script name cert_in old new g is x.problem x.extends (subst (λ (ys : List (Problem × Bool)). HasSession bound ys script) x.only has) x.built so.0 so.1 course
-    (goal_verdict x.problem g so.0 bound cert_in) refl so.2 status wrote
+    goal-checked bound script name cert_in old new g is x.problem x.extends (subst (λ (ys : List (Problem × Bool)). HasSession bound ys script) x.only has) x.built course
+    (goal_verdict x.problem g (has_room x.problem) bound cert_in) refl so status wrote
 
 check-so : (words : Check) (script cert_in : List ℕ) (parts : List (List ℕ)) (old new : Sight) → IsShown (Some (check words)) script cert_in parts old new Answered →
     IsConfirmed words.bound script cert_in old new ⊎ IsConfirmedLeast words.bound script cert_in old new
@@ -262,7 +260,7 @@ least-so words script old new p has g is cert cause x answers written answer =
     let b : Option ℕ = words.options.bound in
     let s : Loosenings = loosenings_of words.options in
     let built = has.built in
-    let h = upper_means b (commands_of b script) p built.whole built.problem g is answers.room cert s x answers.accepted answers.point answers.has_point in
+    let h = upper_means b (commands_of b script) p built.whole built.problem g is (has_room p) cert s x answers.accepted answers.point answers.has_point in
     record {
       problem = p;
       has = has;
@@ -274,7 +272,7 @@ least-so words script old new p has g is cert cause x answers written answer =
       answers = answers;
       written = written;
       answer = answer;
-      lower = lower_means b (commands_of b script) p built.whole built.problem g is answers.room cert s x answers.accepted;
+      lower = lower_means b (commands_of b script) p built.whole built.problem g is (has_room p) cert s x answers.accepted;
       point = record { satisfies = h.0; near = h.1 };
       upper = h.2;
     }
@@ -408,30 +406,28 @@ refused-by words script cert_in old new ps course (refused f n) has e can status
 }
 
 -- of a script with a goal
-goal-refused : (words : Check) (script cert_in : List ℕ) (old new : Sight) (g : ℕ) → goal_in words.bound script ≡ Some g → (p : Problem) → IsBuilt words.bound script p → (room : Bool) → IsRoomOf p room → (course : Course) (v : GoalVerdict) → goal_verdict p g room words.bound cert_in ≡ v →
+goal-refused : (words : Check) (script cert_in : List ℕ) (old new : Sight) (g : ℕ) → goal_in words.bound script ≡ Some g → (p : Problem) → IsBuilt words.bound script p → (course : Course) (v : GoalVerdict) → goal_verdict p g (has_room p) words.bound cert_in ≡ v →
     course ≡ behind ((CertIn, words.cert) ∷ []) (goal_course p g v) → course.status ≡ CertRefused → new.answer ≡ appended old.answer course.answer → IsRefusedForGoal words.bound script cert_in old new
-goal-refused words script cert_in old new g is p built room is_room course (accepted s (plain v)) e can status wrote = absurd (answered-not course.status (ap (λ (c : Course). c.status) can) status)
-goal-refused words script cert_in old new g is p built room is_room course (accepted s (least x)) e can status wrote = absurd (answered-not course.status (ap (λ (c : Course). c.status) can) status)
-goal-refused words script cert_in old new g is p built room is_room course (refused f n) e can status wrote = record {
+goal-refused words script cert_in old new g is p built course (accepted s (plain v)) e can status wrote = absurd (answered-not course.status (ap (λ (c : Course). c.status) can) status)
+goal-refused words script cert_in old new g is p built course (accepted s (least x)) e can status wrote = absurd (answered-not course.status (ap (λ (c : Course). c.status) can) status)
+goal-refused words script cert_in old new g is p built course (refused f n) e can status wrote = record {
   problem = p;
   built = built;
   goal = g;
   is_goal = is;
   fault = f;
   line = n;
-  room = room;
-  is_room = is_room;
   refuses = e;
   written = wrote ∙ ap (λ (c : Course). appended old.answer c.answer) can;
 }
 
 refused-of : (words : Check) (script cert_in : List ℕ) (old new : Sight) (goal : Option ℕ) → goal_in words.bound script ≡ goal → (ps : List (Problem × Bool)) → HasSession words.bound ps script → (course : Course) → CanCheck goal ps words.bound words.cert cert_in course →
     course.status ≡ CertRefused → new.answer ≡ appended old.answer course.answer → IsRefusedCert words.bound script cert_in old new ⊎ IsRefusedForGoal words.bound script cert_in old new
-refused-of words script cert_in old new None is ps has course can status wrote = inl (refused-by words script cert_in old new ps course (session_verdict ps words.bound cert_in) has refl can.2 status wrote)
+refused-of words script cert_in old new None is ps has course can status wrote = inl (refused-by words script cert_in old new ps course (session_verdict ps words.bound cert_in) has refl can status wrote)
 refused-of words script cert_in old new (Some g) is ps has course can status wrote =
     let x = one_problem words.bound script (goal_has_one words.bound script g is) ps has in
     let so : CanCheck (Some g) ((x.problem, x.extends) ∷ []) words.bound words.cert cert_in course = subst (λ (ys : List (Problem × Bool)). CanCheck (Some g) ys words.bound words.cert cert_in course) x.only can in
-    inr (goal-refused words script cert_in old new g is x.problem x.built so.0 so.1 course (goal_verdict x.problem g so.0 words.bound cert_in) refl so.2 status wrote)
+    inr (goal-refused words script cert_in old new g is x.problem x.built course (goal_verdict x.problem g (has_room x.problem) words.bound cert_in) refl so status wrote)
 
 check-refused : (words : Check) (script cert_in : List ℕ) (old new : Sight) (tail : Course) (f : Option ScriptFault) → CanBy f (OfSession words.bound script (λ ps. CanCheck (goal_in words.bound script) ps words.bound words.cert cert_in)) tail
     → tail.status ≡ CertRefused → new.answer ≡ appended old.answer tail.answer → IsRefusedCert words.bound script cert_in old new ⊎ IsRefusedForGoal words.bound script cert_in old new

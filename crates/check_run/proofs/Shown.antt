@@ -13,6 +13,7 @@ use Rattle.script_reading.specs.Faults.{script_fault, session_fault}
 use Rattle.script_forms.specs.Atoms.{goal_atom}
 use Rattle.script_reading.specs.Goals.{goal_in}
 use Rattle.script_reading.specs.Reader.{commands_of}
+use Rattle.goal_limit.specs.Limits.{has_room}
 use Rattle.check_run.specs.declared.status.Status.{Status}
 use Rattle.check_run.specs.declared.status.Status.TheVariants.{Answered, CertRefused, ScriptRefused, Usage, InFailed, OutFailed, NoMemory}
 use Rattle.check_run.specs.Course.{Course, Went, Ends, at_its_end, out_failed, no_memory, RunEnds, on_course, in_failed, draft_failed, no_memory_yet}
@@ -50,11 +51,11 @@ said-goal p g (accepted s (plain v)) = tt
 said-goal p g (accepted s (least x)) = tt
 said-goal p g (refused f n) = tt
 
-said-check : (goal : Option ℕ) (room : Bool) (ps : List (Problem × Bool)) (bound : Option ℕ) (cert_in : List ℕ) → IsSaid (check_course goal room ps bound cert_in).status
-said-check None room ps bound cert_in = said-verdict (session_verdict ps bound cert_in)
-said-check (Some g) room [] bound cert_in = said-verdict (session_verdict [] bound cert_in)
-said-check (Some g) room (p ∷ []) bound cert_in = said-goal p.0 g (goal_verdict p.0 g room bound cert_in)
-said-check (Some g) room (p ∷ q ∷ ps) bound cert_in = said-verdict (session_verdict (p ∷ q ∷ ps) bound cert_in)
+said-check : (goal : Option ℕ) (ps : List (Problem × Bool)) (bound : Option ℕ) (cert_in : List ℕ) → IsSaid (check_course goal ps bound cert_in).status
+said-check None ps bound cert_in = said-verdict (session_verdict ps bound cert_in)
+said-check (Some g) [] bound cert_in = said-verdict (session_verdict [] bound cert_in)
+said-check (Some g) (p ∷ []) bound cert_in = said-goal p.0 g (goal_verdict p.0 g (has_room p.0) bound cert_in)
+said-check (Some g) (p ∷ q ∷ ps) bound cert_in = said-verdict (session_verdict (p ∷ q ∷ ps) bound cert_in)
 
 said-upgrade-by : (v : SessionVerdict) (ps : List (Problem × Bool)) (bound : Option ℕ) (out cert_in : List ℕ) (course : Course) → CanUpgradeBy v ps bound out cert_in course → IsSaid course.status
 said-upgrade-by (accepted s values) ps bound out cert_in course can = said-same course _ can.1 tt
@@ -103,7 +104,7 @@ said (Some (solve words)) script cert_in parts course can = said-same course _ c
     (said-by words.options.bound script (λ ps. CanSolve ps words.options words.cert) (λ ps c h. said-solve ps words.options words.cert c h) (session_fault words.options.bound script) can.0 can.1)
 said (Some (minimize words)) script cert_in parts course can = said-same course _ can.2 (said-minimize words script (script_fault words.options.bound script) can.0 can.1)
 said (Some (check words)) script cert_in parts course can = said-same course _ can.2
-    (said-by words.bound script (λ ps. CanCheck (goal_in words.bound script) ps words.bound words.cert cert_in) (λ ps c h. said-same c _ h.2 (said-check (goal_in words.bound script) h.0 ps words.bound cert_in)) (session_fault words.bound script) can.0 can.1)
+    (said-by words.bound script (λ ps. CanCheck (goal_in words.bound script) ps words.bound words.cert cert_in) (λ ps c h. said-same c _ h (said-check (goal_in words.bound script) ps words.bound cert_in)) (session_fault words.bound script) can.0 can.1)
 said (Some (upgrade words)) script cert_in parts course can = said-same course _ can.2
     (said-by words.bound script (λ ps. CanUpgrade ps words.bound words.cert words.out cert_in) (λ ps c h. said-upgrade ps words.bound words.cert words.out cert_in c h) (session_fault words.bound script) can.0 can.1)
 said (Some (plan words)) script cert_in parts course can = said-same course _ can.2

@@ -1,6 +1,6 @@
 -- From a certificate on its port to the end of a run.
 use Rattle.std.proofs.Common.{◌≡◌, ◌<◌, ◌≤◌, ◌++◌, ℕ, List, [], ◌∷◌, Bool, Option, Some, None, Result, Ok, Err, IfSome, length, map, take, drop, refl, ap, sym, ◌∙◌, subst, inl, inr, arith, take-append-drop, append_assoc, append-nil}
-use Rattle.std.specs.Prelude.{Vec, false}
+use Rattle.std.specs.Prelude.{Vec}
 use Rattle.std.specs.Option.{option_map}
 use Rattle.std.specs.declared.alloc.Global.{Global}
 use Rattle.std.proofs.Math.ListN.{drop_of_length-le}
@@ -225,4 +225,4 @@ module _ (session : List (Parts × Bool)) (bound : Option ℕ) (name : List ℕ)
       (subst (λ (o : Option (List ℕ)). IfSome o (λ cert. IsSessionVerdictOrMemory (session_verdict (problems_of session) bound cert) r)) (ap (λ (d : Sight). d.cert_in) started) tells)
       (λ cert h.
       run_behind (IsCourseOf (session_verdict (problems_of session) bound cert)) (CanCheck None (problems_of session) bound name cert) (CertIn, name) [] old mid new status (after_cert_in name old first mid started some)
-      (λ tail can. (false, tt, ap (λ (c : Course). behind ((CertIn, name) ∷ []) c) can)) (ends (session_verdict (problems_of session) bound cert) h))
+      (λ tail can. ap (λ (c : Course). behind ((CertIn, name) ∷ []) c) can) (ends (session_verdict (problems_of session) bound cert) h))

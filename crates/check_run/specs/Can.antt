@@ -12,7 +12,7 @@ use Rattle.cert_model.specs.Due.{Value, left_open}
 use Rattle.cert_model.specs.Accepted.{accepted, refused}
 use Rattle.cert_model.specs.AnswerText.{check_text, goal_text, verdict_text, demo_text}
 use Rattle.cert_model.specs.Least.{GoalVerdict, goal_verdict}
-use Rattle.cert_model.specs.Limited.{IsRoomOf}
+use Rattle.goal_limit.specs.Limits.{has_room}
 use Rattle.cert_model.specs.Session.{SessionVerdict, AreAccepted, session_verdict}
 use Rattle.cert_upgrade.specs.Upgraded.{in_newest, upgraded}
 use Rattle.check_run.specs.declared.status.Status.TheVariants.{Answered, CertRefused, ScriptRefused, Usage}
@@ -54,21 +54,15 @@ abbrev pub goal_course : Problem → ℕ → GoalVerdict → Course
 goal_course p g (accepted s v) = says Answered (goal_text p g s v)
 goal_course p g (refused fault line) = says CertRefused (verdict_text (refused fault line))
 
--- by the atom of the goal, where there is one, and whether there is room for a limit of it
-abbrev pub check_course : Option ℕ → Bool → List (Problem × Bool) → Option ℕ → List ℕ → Course
-check_course None room ps bound cert_in = verdict_course (session_verdict ps bound cert_in)
-check_course (Some g) room ((p, e) ∷ []) bound cert_in = goal_course p g (goal_verdict p g room bound cert_in)
-check_course (Some g) room ps bound cert_in = verdict_course (session_verdict ps bound cert_in)
-
--- whether there is room for a limit of the goal, where there is one
-abbrev pub IsRoomFor : Option ℕ → Bool → List (Problem × Bool) → Type 0
-IsRoomFor (Some g) room ((p, e) ∷ []) = IsRoomOf p room
-IsRoomFor goal room ps = Unit {0}
+-- by the atom of the goal, where there is one
+abbrev pub check_course : Option ℕ → List (Problem × Bool) → Option ℕ → List ℕ → Course
+check_course None ps bound cert_in = verdict_course (session_verdict ps bound cert_in)
+check_course (Some g) ((p, e) ∷ []) bound cert_in = goal_course p g (goal_verdict p g (has_room p) bound cert_in)
+check_course (Some g) ps bound cert_in = verdict_course (session_verdict ps bound cert_in)
 
 -- `check`: the verdict of what CertIn held
 abbrev pub CanCheck : Option ℕ → List (Problem × Bool) → Option ℕ → List ℕ → List ℕ → Course → Type 0
-CanCheck goal ps bound name cert_in course =
-    (room : Bool) × IsRoomFor goal room ps × (course ≡ behind ((CertIn, name) ∷ []) (check_course goal room ps bound cert_in))
+CanCheck goal ps bound name cert_in course = course ≡ behind ((CertIn, name) ∷ []) (check_course goal ps bound cert_in)
 
 abbrev pub upgraded_text : List ℕ
 upgraded_text = codes "upgraded\n"

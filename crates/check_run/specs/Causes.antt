@@ -2,10 +2,12 @@
 --
 -- It is many searches: the first one of the problem itself, and each later one of the problem with a limit of the goal. What a search did is
 -- told by its cover, as a certificate has it: lemmas with their trees, and a tree of lines at the root of the declared box.
-use Rattle.std.specs.Prelude.{◌≡◌, ◌≢◌, ℕ, suc, ◌+◌, List, [], All, Bool, true, false, Some, IsTrue, sum_by}
+use Rattle.std.specs.Prelude.{◌≡◌, ◌≢◌, ℕ, suc, ◌+◌, List, [], All, true, false, Option, Some, None, IfSome, IsTrue, sum_by}
 use Rattle.command_line.specs.declared.request.Options.{Options}
-use Rattle.dyadic.specs.Rounding.{Dyadic, finite}
+use Rattle.dyadic.specs.Rounding.{Dyadic, ext_at_most, finite}
+use Rattle.interval_model.specs.Space.{Space}
 use Rattle.poly_graph.specs.Problem.{Problem}
+use Rattle.cover_model.specs.Fits.{IsShownAt}
 use Rattle.cover_model.specs.State.{Loosenings, root_state}
 use Rattle.cover_model.specs.Rules.{open_line}
 use Rattle.cover_model.specs.Honest.{is_honest}
@@ -13,9 +15,11 @@ use Rattle.cover_model.specs.Derivation.{Tree}
 use Rattle.cert_model.specs.AnswerText.{has_open}
 use Rattle.cert_model.specs.Due.{Standing}
 use Rattle.cert_model.specs.Laws.{IsLawfulCover}
-use Rattle.cert_model.specs.Least.{can_limit}
+use Rattle.cert_model.specs.Least.{can_limit, lower_end, upper_at}
 use Rattle.cert_model.specs.Limited.{limited}
-use Rattle.cert_model.specs.Written.{LemmaTree, lemma_states, left_standing, tree_branches, tree_standing}
+use Rattle.cert_model.specs.Written.{IsHonestTree, LemmaTree, lemma_states, left_standing, tree_branches, tree_standing}
+use Rattle.goal_limit.specs.Limits.{has_room}
+use Rattle.goal_limit.specs.Lows.{root_low}
 use Rattle.goal_limit.specs.Tries.{Span, is_between}
 use Rattle.check_run.specs.Answer.{loosenings_of}
 
@@ -40,25 +44,57 @@ left_by p s w c = left_standing p s (lemma_states c.lemmas) (root_state p) c.tre
 abbrev pub CoverFor : Problem → Options → Type 0
 CoverFor p options = HonestCover p (loosenings_of options) options.least_bits
 
-module _ (p : Problem) (g : ℕ) (room : Bool) (options : Options) where
-  -- with a limit of the goal, the term of atom g
+-- open lines are honest too
+abbrev pub IsHonestThroughout : (p : Problem) (s : Loosenings) (w : ℕ) → HonestCover p s w → Type 0
+IsHonestThroughout p s w c = IsHonestTree p w s (lemma_states c.lemmas) (root_state p) c.tree
+
+-- a point at which the problem is sure, with the delta of the words
+abbrev pub IsSureAt : Problem → Options → Space → Type 0
+IsSureAt p options x = IsShownAt p (loosenings_of options) x
+
+module _ (p : Problem) (g : ℕ) (options : Options) where
+  -- With a limit of the goal, the term of atom g: it found a point, or each line of its cover is honest.
   pub record LimitSearch : Type 0 where
     pub bits : ℕ
     pub limit : Dyadic
-    pub takes : can_limit p room (Some limit) bits ≡ true
+    pub takes : can_limit p (has_room p) (Some limit) bits ≡ true
     pub cover : CoverFor (limited p g bits limit) options
+    pub point : Option Space
+    pub sure : IfSome point (IsSureAt (limited p g bits limit) options)
+    pub honest : point ≡ None → IsHonestThroughout (limited p g bits limit) (loosenings_of options) options.least_bits cover
 
   -- the states that it leaves
   abbrev pub left_of : LimitSearch → List Standing
   left_of x = left_by (limited p g x.bits x.limit) (loosenings_of options) options.least_bits x.cover
 
+  -- the first one found this point
   pub record Searches : Type 0 where
     pub first : CoverFor p options
+    pub start : Space
+    pub sure : IsSureAt p options start
     pub later : List LimitSearch
 
   -- each branch costs one of the budget, and each later search one besides
   abbrev pub cost_of : Searches → ℕ
   cost_of x = tree_branches x.first.tree + sum_by (λ (y : LimitSearch). suc (tree_branches y.cover.tree)) x.later
+
+  -- The limit of a search lies between the lower end of the goal over the declared box and its value at a sure point.
+  pub record IsLimitBetween (limit : Dyadic) : Type 0 where
+    pub best : Space
+    pub sure : IsSureAt p options best
+    pub between : is_between (record { low = root_low p g; high = upper_at p g best; gap = 0 }) (finite limit) ≡ true
+
+  -- What a search found is in these bounds: where it leaves nothing, the lower one is not below its limit; where it found a point, the upper one is
+  -- not above the goal there.
+  pub record IsUsed (bounds : Span) (x : LimitSearch) : Type 0 where
+    pub between : IsLimitBetween x.limit
+    pub closed : x.point ≡ None → left_of x ≡ [] → ext_at_most (finite x.limit) (lower_end bounds.low) ≡ true
+    pub found : IfSome x.point (λ y. ext_at_most bounds.high (upper_at p g y) ≡ true)
+
+  -- the same of all searches
+  pub record AreUsed (bounds : Span) (x : Searches) : Type 0 where
+    pub first : ext_at_most bounds.high (upper_at p g x.start) ≡ true
+    pub later : All (IsUsed bounds) x.later
 
   -- A search with a limit between the bounds left boxes, none of them open: they have the least width, and the limit or an atom is not decided.
   pub record IsNarrow (bounds : Span) : Type 0 where

@@ -11,7 +11,7 @@ use Rattle.cert_read.specs.LineText.{lower_text}
 use Rattle.cover_model.specs.State.{Loosenings}
 use Rattle.cert_model.specs.AnswerText.{text_line, end_text, goal_text}
 use Rattle.cert_model.specs.Least.{GoalValue, GoalVerdict, goal_verdict}
-use Rattle.cert_model.specs.Limited.{has_room}
+use Rattle.goal_limit.specs.Limits.{has_room}
 use Rattle.cert_check.specs.Feeding.{IsRefusalOrMemory}
 use Rattle.cert_check.specs.declared.fault.CertFault.{CertFault}
 use Rattle.cert_least.specs.declared.verdict.GoalVerdict as told
@@ -42,7 +42,7 @@ IsGoalVerdictOnPort a v (Err Failed) = Unit {0}
 
 -- that of the certificate that the port holds, for the problem of the only check, whose goal is the term of atom g
 abbrev pub IsGoalVerdictFor : Parts → ℕ → Option ℕ → Sight → GoalTold → Type 0
-IsGoalVerdictFor p g bound old r = IfSome old.cert_in (λ cert. IsGoalVerdictOnPort (aim_at p g bound) (goal_verdict (problem_of p) g (has_room p) bound cert) r)
+IsGoalVerdictFor p g bound old r = IfSome old.cert_in (λ cert. IsGoalVerdictOnPort (aim_at p g bound) (goal_verdict (problem_of p) g (has_room (problem_of p)) bound cert) r)
 
 -- what was read of it: all where it is confirmed
 abbrev pub IsGoalReadFor : GoalTold → Sight → Sight → Type 0
@@ -81,4 +81,4 @@ CanCheckGoal p g room bound name cert_in course = course ≡ behind ((CertIn, na
 
 -- a run ends behind its problem, where the port shows a certificate
 abbrev pub EndsOnGoal : Parts → ℕ → Option ℕ → List ℕ → Sight → Sight → Status → Type 0
-EndsOnGoal p g bound name old new status = IfSome old.cert_in (λ cert. RunEnds (CanCheckGoal (problem_of p) g (has_room p) bound name cert) ((CertIn, name) ∷ []) old new status)
+EndsOnGoal p g bound name old new status = IfSome old.cert_in (λ cert. RunEnds (CanCheckGoal (problem_of p) g (has_room (problem_of p)) bound name cert) ((CertIn, name) ∷ []) old new status)

@@ -16,7 +16,7 @@ use Rattle.cert_model.specs.Due.{CertFault, Standing, Value, at_point, left_open
 use Rattle.cert_model.specs.Accepted.{IsAccepted, refused, verdict}
 use Rattle.cert_model.specs.AnswerText.{text_line, unsat_text, delta_sat_text, check_text, least_text, solve_text, verdict_text}
 use Rattle.cert_model.specs.Least.{Least, least, upper_at, IsGoalAccepted, goal_verdict}
-use Rattle.cert_model.specs.Limited.{IsRoomOf}
+use Rattle.goal_limit.specs.Limits.{has_room}
 use Rattle.cert_model.specs.Session.{AreAccepted, session_verdict}
 use Rattle.cert_upgrade.specs.Upgraded.{in_newest, upgraded}
 use Rattle.headline.specs.Laws.{HasNoPoint}
@@ -90,9 +90,7 @@ pub record IsConfirmedLeast (bound : Option ℕ) (script cert_in : List ℕ) (ol
   pub is_goal : goal_in bound script ≡ Some goal
   pub loosenings : Loosenings
   pub value : Least
-  pub room : Bool
-  pub is_room : IsRoomOf problem room
-  pub accepted : IsGoalAccepted problem goal room bound cert_in loosenings (least value)
+  pub accepted : IsGoalAccepted problem goal (has_room problem) bound cert_in loosenings (least value)
   pub answer : new.answer ≡ appended old.answer (least_text problem goal value)
   pub lower : HasLowerBound bound (commands_of bound script) (exact (margin_of loosenings)) value.lower
   pub upper : (space : Space) → value.point ≡ Some space →
@@ -100,7 +98,7 @@ pub record IsConfirmedLeast (bound : Option ℕ) (script cert_in : List ℕ) (ol
 
 -- What was written as certificate is accepted for the problem of the script's only check with a lower bound of its goal, and the answer is its
 -- text. The bound is one at each point of the declared box that satisfies the script, each atom loosened by the margin; the point satisfies it
--- at delta, lies within delta of the declared box, and the goal's value there is at most the upper bound. `minimum` is said only where the
+-- at delta, lies within delta of the declared box, and the goal's value there is at most the upper bound. `minimum` is said exactly where the
 -- bounds are within the gap of the words.
 pub record IsLeast (words : Minimize) (script : List ℕ) (old new : Sight) : Type 0 where
   pub problem : Problem
@@ -288,9 +286,7 @@ pub record IsRefusedForGoal (bound : Option ℕ) (script cert_in : List ℕ) (ol
   pub is_goal : goal_in bound script ≡ Some goal
   pub fault : CertFault
   pub line : ℕ
-  pub room : Bool
-  pub is_room : IsRoomOf problem room
-  pub refuses : goal_verdict problem goal room bound cert_in ≡ refused fault line
+  pub refuses : goal_verdict problem goal (has_room problem) bound cert_in ≡ refused fault line
   pub written : new.answer ≡ appended old.answer (verdict_text (refused fault line))
 
 -- The same by the verdict on its only check.

@@ -28,7 +28,7 @@ pub enum Cause {
     Spent,
     /// A box of the least width is left.
     Narrow,
-    /// There is no limit between the bounds, or no room for one.
+    /// There is no limit between the bounds, or no room for one among the subterms and atoms.
     NoLimit,
 }
 

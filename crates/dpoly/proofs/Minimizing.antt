@@ -4,6 +4,9 @@ use Rattle.std.specs.Prelude.{option_map}
 use Rattle.desk.specs.Sight.{Sight}
 use Rattle.command_line.specs.Words.{Minimize, AreOptions}
 use Rattle.command_line.specs.declared.request.Options.{Options}
+use Rattle.dyadic.specs.End.{lesser_ext}
+use Rattle.dyadic.specs.Rounding
+use Rattle.dyadic.specs.Rounding.{below_all, finite, above_all}
 use Rattle.dyadic.specs.Views.{dyadic_of, ext_of}
 use Rattle.dyadic.specs.declared.dy.Dy.{Dy}
 use Rattle.dyadic.specs.declared.dy.Ext.{Ext}
@@ -15,8 +18,9 @@ use Rattle.cover_data.specs.declared.margins.Margins.{Margins}
 use Rattle.cover_data.specs.declared.margins.Options as cover
 use Rattle.cover_data.specs.Margins.{AreMargins, margins_of, loosenings_of as of_margins}
 use Rattle.cert_model.specs.Due.{left_open}
-use Rattle.cert_model.specs.Least.{Least, least, IsGoalAccepted}
-use Rattle.cert_model.specs.Limited.{has_room}
+use Rattle.cert_model.specs.Least.{Least, least, lower_end, IsGoalAccepted}
+use Rattle.goal_limit.specs.Limits.{has_room}
+use Rattle.goal_limit.specs.Lows.{root_low}
 use Rattle.cert_model.specs.AnswerText.{solve_text}
 use Rattle.cover_model.specs.State.{root_state}
 use Rattle.cover_book.specs.Keeps.{IsBook}
@@ -27,17 +31,18 @@ use Rattle.cover_book.specs.declared.verdict.BookVerdict.TheVariants.{NotYet}
 use Rattle.solve_core.specs.Reaches.{Reaches}
 use Rattle.solve_core.proofs.Reached.{reaches_same}
 use Rattle.goal_limit.specs.Tries.{Span}
-use Rattle.least_search.specs.Found.{bound_of, IsBookOf, IsClosed, IsFound, IsLower}
+use Rattle.least_search.specs.Found.{bound_of, low_end, IsBookOf, IsClosed, IsFound, IsLower}
 use Rattle.least_search.specs.declared.found.Found.{Found}
 use Rattle.least_search.specs.declared.found.Lower.{Lower}
 use Rattle.least_search.specs.declared.found.Lower.TheVariants as shown
+use Rattle.least_search.proofs.RootBounds.{root_is_over}
 use Rattle.least_text.specs.Means.{IsLimitedCertificate, IsOverCertificate}
 use Rattle.check_run.specs.declared.minimized.Cause as tells
 use Rattle.check_run.specs.declared.status.Status.{Status}
 use Rattle.check_run.specs.Answer.{loosenings_of}
 use Rattle.check_run.specs.Bounds.{cause_of, IsMinimizeText}
 use Rattle.check_run.specs.Course.{gives, Ends, RunEnds, on_course}
-use Rattle.check_run.specs.Minimized.{Cause, CanTellLeast, IsCauseFor, bounds_at, minimize_text}
+use Rattle.check_run.specs.Minimized.{Cause, CanTellLeast, IsCauseFor, bounds_at, least_low, minimize_text}
 use Rattle.dpoly.specs.declared.answers.SearchAnswer.{SearchAnswer}
 use Rattle.dpoly.specs.Minimize.{overs_of, told_cause, value_of, IsAcceptedFor, IsFoundAnswer, IsMinimizeAnswer}
 use Rattle.dpoly.specs.Search.{search_options}
@@ -73,16 +78,16 @@ margins o h = record {
 module _ (q : Parts) (g gap : ℕ) (o : cover.Options) (f : Found) (found : IsFound q g gap o f) where
   -- what is accepted by what shows the bound
   accepted-as : (l : Lower) → f.lower ≡ l → (cert : List ℕ) →
-      IsGoalAccepted (problem_of q) g (has_room q) o.bound cert (of_margins (margins_of o)) (least (record { lower = option_map dyadic_of (bound_of l); over = overs_of (problem_of q) l; point = Some f.point })) →
+      IsGoalAccepted (problem_of q) g (has_room (problem_of q)) o.bound cert (of_margins (margins_of o)) (least (record { lower = option_map dyadic_of (bound_of l); over = overs_of (problem_of q) l; point = Some f.point })) →
       IsAcceptedFor q g o f cert
   accepted-as l e cert h =
-      subst (λ (x : Lower). IsGoalAccepted (problem_of q) g (has_room q) o.bound cert (of_margins (margins_of o)) (least (record { lower = option_map dyadic_of (bound_of x); over = overs_of (problem_of q) x; point = Some f.point }))) (sym e) h
+      subst (λ (x : Lower). IsGoalAccepted (problem_of q) g (has_room (problem_of q)) o.bound cert (of_margins (margins_of o)) (least (record { lower = option_map dyadic_of (bound_of x); over = overs_of (problem_of q) x; point = Some f.point }))) (sym e) h
 
   pub root_accepted : (low : Option Dy) → f.lower ≡ shown.Root low → AreMargins (margins_of o) → (x : Space) → x ≡ f.point → (cert : List ℕ) → IsOverCertificate o (option_map dyadic_of low) x cert → IsAcceptedFor q g o f cert
   root_accepted low e m x at cert is =
       let over = subst (IsLower q g o) e found.lower in
       let here : IsOverCertificate o (option_map dyadic_of low) f.point cert = subst (λ (y : Space). IsOverCertificate o (option_map dyadic_of low) y cert) at is in
-      accepted-as (shown.Root low) e cert (here (problem_of q) g (has_room q) m found.crossed (over found.crossed) found.shown)
+      accepted-as (shown.Root low) e cert (here (problem_of q) g (has_room (problem_of q)) m found.crossed (root_is_over (problem_of q) g (option_map dyadic_of low) over found.crossed) found.shown)
 
   pub closed_by : (b : BookModel) (k : ℕ) (d : Dy) → f.lower ≡ shown.Limit b k d → IsClosed q g o b k (dyadic_of d)
   closed_by b k d e = subst (IsLower q g o) e found.lower
@@ -93,10 +98,10 @@ module _ (q : Parts) (g gap : ℕ) (o : cover.Options) (f : Found) (found : IsFo
       let point : Space = f.point in
       let here : IsLimitedCertificate b k (dyadic_of d) point cert = subst (λ (y : Space). IsLimitedCertificate b k (dyadic_of d) y cert) at is in
       let sure = subst (λ (m : Margins). IsShownAt (problem_of q) (of_margins m) point) (sym closed.margins) found.shown in
-      let by_book = here (problem_of q) g (has_room q) closed.takes closed.problem sure in
+      let by_book = here (problem_of q) g (has_room (problem_of q)) closed.takes closed.problem sure in
       let value : Least = record { lower = Some (dyadic_of d); over = []; point = Some point } in
-      let by_bound = subst (λ (n : Option ℕ). IsGoalAccepted (problem_of q) g (has_room q) n cert (of_margins (margins_of b.options)) (least value)) closed.bound by_book in
-      accepted-as (shown.Limit b k d) e cert (subst (λ (m : Margins). IsGoalAccepted (problem_of q) g (has_room q) o.bound cert (of_margins m) (least value)) closed.margins by_bound)
+      let by_bound = subst (λ (n : Option ℕ). IsGoalAccepted (problem_of q) g (has_room (problem_of q)) n cert (of_margins (margins_of b.options)) (least value)) closed.bound by_book in
+      accepted-as (shown.Limit b k d) e cert (subst (λ (m : Margins). IsGoalAccepted (problem_of q) g (has_room (problem_of q)) o.bound cert (of_margins m) (least value)) closed.margins by_bound)
 
 -- ---- answers
 
@@ -112,25 +117,38 @@ text_as p n budget c low bound e y x text same_budget same_low same_point h =
 pub certificate_as : (q : Parts) (g gap : ℕ) (a o : cover.Options) (f : Found) (cert : List ℕ) → a ≡ o → (IsFound q g gap a f → IsAcceptedFor q g a f cert) → IsFound q g gap o f → IsAcceptedFor q g o f cert
 certificate_as q g gap a o f cert same h = subst (λ (x : cover.Options). IsFound q g gap x f → IsAcceptedFor q g x f cert) same h
 
+-- the lower bound is that of the boxes that are left
+least-over : (q : Parts) (g gap : ℕ) (o : cover.Options) (f : Found) → IsFound q g gap o f → (l : Lower) → f.lower ≡ l → overs_of (problem_of q) l ≢ [] → low_end l ≡ least_low (problem_of q) g (overs_of (problem_of q) l)
+least-over q g gap o f found (shown.Root low) e some =
+    let bound : IsLower q g o (shown.Root low) = subst (IsLower q g o) e found.lower in
+    ap lower_end (bound found.crossed) ∙ sym (lesser-of-all (lower_end (root_low (problem_of q) g)))
+  where
+    lesser-of-all : (e : Rounding.Ext) → lesser_ext e above_all ≡ e
+    lesser-of-all below_all = refl
+    lesser-of-all (finite d) = refl
+    lesser-of-all above_all = refl
+least-over q g gap o f found (shown.Limit b k d) e some = absurd (some refl)
+
 pub found_answer : (q : Parts) (g : ℕ) (words : Minimize) (f : Found) (told : SearchAnswer) → IsFound q g words.gap_bits (search_options words.options) f → IsAcceptedFor q g (search_options words.options) f told.cert.items →
     (c : tells.Cause) → c ≡ told_cause f.ending → IsMinimizeText (problem_of q) words.options.budget (cause_of c) (option_map dyadic_of (bound_of f.lower)) (ext_of f.upper) f.point told.text.items → IsFoundAnswer (problem_of q) g words told
 found_answer q g words f told found accepted c is text =
     let p : Problem = problem_of q in
     let bounds : Span = bounds_at p g words.gap_bits (option_map dyadic_of (bound_of f.lower)) f.point in
     let clear = clear_box p found.crossed in
-    let covers = all_covers q g words.options clear found.left found.searches in
+    let covers = all_covers q g words.options clear bounds found.left found.searches found.used in
     record {
       cause = cause_of c;
       value = value_of p f;
       answer = record {
-        room = has_room q;
-        is_room = (q, refl, refl);
         accepted = accepted;
+        lower = record { root = found.root; over = least-over q g words.gap_bits (search_options words.options) f found f.lower refl };
         point = f.point;
         has_point = refl;
         searches = covers.searches;
         within = omega (arith, covers.cost);
-        is_cause = subst (λ (k : tells.Cause). IsCauseFor p g (has_room q) words.options bounds covers.searches (cause_of k)) (sym is) (ending_told q g words.options clear bounds found.left f.ending found.ending covers);
+        used = covers.used;
+        is_near = λ settled. ap cause_of (is ∙ ap told_cause (found.near settled));
+        is_cause = subst (λ (k : tells.Cause). IsCauseFor p g words.options bounds covers.searches (cause_of k)) (sym is) (ending_told q g words.options clear bounds found.left f.ending found.ending covers);
       };
       text = text g (value_of p f) refl refl found.upper;
     }

@@ -8,7 +8,7 @@ use Rattle.poly_graph.specs.Problem.{Problem}
 use Rattle.poly_graph.specs.ProblemViews.{Parts, problem_of}
 use Rattle.cert_model.specs.Due.{Standing, left_open}
 use Rattle.cert_model.specs.Least.{Least, least, IsGoalAccepted}
-use Rattle.cert_model.specs.Limited.{has_room}
+use Rattle.goal_limit.specs.Limits.{has_room}
 use Rattle.cert_model.specs.AnswerText.{solve_text}
 use Rattle.cover_data.specs.declared.margins.Options as cover
 use Rattle.cover_data.specs.Margins.{margins_of, loosenings_of as of_margins}
@@ -37,7 +37,7 @@ value_of p f = record { lower = option_map dyadic_of (bound_of f.lower); over = 
 
 -- for these options the certificate is accepted, with the value of what was found
 abbrev pub IsAcceptedFor : Parts → ℕ → cover.Options → Found → List ℕ → Type 0
-IsAcceptedFor q g o f cert = IsGoalAccepted (problem_of q) g (has_room q) o.bound cert (of_margins (margins_of o)) (least (value_of (problem_of q) f))
+IsAcceptedFor q g o f cert = IsGoalAccepted (problem_of q) g (has_room (problem_of q)) o.bound cert (of_margins (margins_of o)) (least (value_of (problem_of q) f))
 
 -- ---- answers
 

@@ -1,7 +1,7 @@
 pub mod Counts
 pub mod Ends
-pub mod Forms
 pub mod Graphs
+pub mod LimitForms
 pub mod Parts
 pub mod Walks
 pub mod Wholes

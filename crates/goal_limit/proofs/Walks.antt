@@ -4,7 +4,7 @@ use Rattle.std.specs.Prelude.{slice_get}
 use Rattle.dyadic.specs.Fraction.{Fraction}
 use Rattle.poly_graph.specs.Term.{Node}
 use Rattle.poly_graph.specs.FormGraph.{FormNode, node_size, forms_size}
-use Rattle.cert_model.specs.Limited.{is_constant, has_constant, names_atom, have_atom}
+use Rattle.cert_model.specs.Limited.{is_constant, has_constant}
 
 drop-at : {X : Type 0} (xs : List X) (k : ℕ) (x : X) → slice_get xs k ≡ Some x → drop k xs ≡ x ∷ drop (suc k) xs
 drop-at [] k x h = cc
@@ -25,12 +25,6 @@ constant_found ns q k n h e t = sym (sym h ∙ ap (λ ms. has_constant ms q) (dr
 
 pub constant_passed : (ns : List Node) (q : Fraction) (k : ℕ) (n : Node) → has_constant (drop k ns) q ≡ has_constant ns q → slice_get ns k ≡ Some n → false ≡ is_constant q n → has_constant (drop (k + 1) ns) q ≡ has_constant ns q
 constant_passed ns q k n h e t = or-false (is_constant q n) (has_constant (drop (k + 1) ns) q) (sym t) ∙ sym (ap (λ ms. has_constant ms q) (drop-next ns k n e)) ∙ h
-
-pub atom_found : (ns : List FormNode) (j k : ℕ) (n : FormNode) → have_atom (drop k ns) j ≡ have_atom ns j → slice_get ns k ≡ Some n → true ≡ names_atom j n → true ≡ have_atom ns j
-atom_found ns j k n h e t = sym (sym h ∙ ap (λ ms. have_atom ms j) (drop-next ns k n e) ∙ or-true (names_atom j n) (have_atom (drop (k + 1) ns) j) (sym t))
-
-pub atom_passed : (ns : List FormNode) (j k : ℕ) (n : FormNode) → have_atom (drop k ns) j ≡ have_atom ns j → slice_get ns k ≡ Some n → false ≡ names_atom j n → have_atom (drop (k + 1) ns) j ≡ have_atom ns j
-atom_passed ns j k n h e t = or-false (names_atom j n) (have_atom (drop (k + 1) ns) j) (sym t) ∙ sym (ap (λ ms. have_atom ms j) (drop-next ns k n e)) ∙ h
 
 pub size_next : (ns : List FormNode) (k size more : ℕ) (n : FormNode) → size + forms_size (drop k ns) ≡ forms_size ns → slice_get ns k ≡ Some n → more ≡ node_size n → size + more + forms_size (drop (k + 1) ns) ≡ forms_size ns
 size_next ns k size more n h e m = omega (arith, h, m, ap forms_size (drop-next ns k n e))

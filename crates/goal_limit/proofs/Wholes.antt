@@ -6,13 +6,12 @@ use Rattle.dyadic.specs.Fraction.{Fraction}
 use Rattle.dyadic.specs.Point.{Sort}
 use Rattle.poly_graph.specs.Term.{Node, Kind, le, constant_node, multiply_node, add_node}
 use Rattle.poly_graph.specs.Form.{Form, Forms, yes_form, no_form, atom_is, bool_is, all_form, any_form, no_forms, more_forms}
+use Rattle.poly_graph.specs.FormGraph.{FormNode}
 use Rattle.poly_graph.specs.Shared.{IsGraph}
 use Rattle.poly_graph.specs.Problem.{Problem, IsForm, AreForms, IsNode, IsConstant, atom_at, sorts_of_axes, no_place}
 use Rattle.poly_graph.specs.ProblemViews.{Parts, problem_of, IsWhole}
-use Rattle.cert_model.specs.Limited.{limit_nodes}
-use Rattle.goal_limit.specs.Made.{limit_parts, limit_forms}
-use Rattle.cert_model.specs.Limited.{with_limit}
-use Rattle.goal_limit.proofs.Forms.{limit_form}
+use Rattle.cert_model.specs.Limited.{limit_nodes, with_limit}
+use Rattle.goal_limit.specs.Made.{IsLimitForm, limit_parts}
 
 mutual
   form-more : (sorts : List Sort) (m n : ℕ) → m ≤ n → (f : Form ℕ) → IsForm sorts m f → IsForm sorts n f
@@ -31,9 +30,9 @@ mutual
 pub goal_within : (q : Parts) (g : ℕ) → IsWhole q → g < length q.atoms → (atom_at (problem_of q) g).0 < length q.nodes
 goal_within q g w h = w.problem.atoms g no_place h
 
-module _ (q : Parts) (g : ℕ) (a b : Fraction) (w : IsWhole q) where
+module _ (q : Parts) (g : ℕ) (a b : Fraction) (forms : List FormNode) (root : ℕ) (w : IsWhole q) (made : IsLimitForm q.forms q.root (length q.atoms) forms root) where
   abbrev p : Problem
-  p = problem_of (limit_parts q g a b)
+  p = problem_of (limit_parts q g a b forms root)
 
   abbrev sorts : List Sort
   sorts = sorts_of_axes q.axes
@@ -60,20 +59,20 @@ module _ (q : Parts) (g : ℕ) (a b : Fraction) (w : IsWhole q) where
   atoms-length = length-append q.atoms ((length q.nodes + 3, le) ∷ [])
 
   is-form : IsForm sorts (length p.atoms) p.form
-  is-form = subst (IsForm sorts (length p.atoms)) (sym (limit_form q.forms q.root (length q.atoms) w.root))
+  is-form = subst (IsForm sorts (length p.atoms)) (sym made.form)
       (form-more sorts (length q.atoms) (length p.atoms) (omega (arith, atoms-length)) (problem_of q).form w.problem.form, (omega (arith, atoms-length), tt))
 
-  pub limit_whole : IsConstant a → IsConstant b → IsGraph (limit_parts q g a b).nodes → IsWhole (limit_parts q g a b)
+  pub limit_whole : IsConstant a → IsConstant b → IsGraph p.nodes → IsWhole (limit_parts q g a b forms root)
   limit_whole ca cb graph = record {
     problem = record { bounds = w.problem.bounds; ordered = graph.ordered; nodes = are-nodes ca cb; atoms = are-atoms; form = is-form };
-    root = omega (arith, length-append q.forms (limit_forms (length q.forms) q.root (length q.atoms)));
+    root = made.there;
   }
 
 -- its problem is the problem with the limit
-pub limit_problem : (q : Parts) (g : ℕ) (a b : Fraction) → q.root < length q.forms → problem_of (limit_parts q g a b) ≡ with_limit (problem_of q) g a b
-limit_problem q g a b within = λ i. record {
+pub limit_problem : (q : Parts) (g : ℕ) (a b : Fraction) (forms : List FormNode) (root : ℕ) → IsLimitForm q.forms q.root (length q.atoms) forms root → problem_of (limit_parts q g a b forms root) ≡ with_limit (problem_of q) g a b
+limit_problem q g a b forms root made = λ i. record {
   axes = q.axes;
-  nodes = (limit_parts q g a b).nodes;
-  atoms = (limit_parts q g a b).atoms;
-  form = (limit_form q.forms q.root (length q.atoms) within) i;
+  nodes = (limit_parts q g a b forms root).nodes;
+  atoms = (limit_parts q g a b forms root).atoms;
+  form = made.form i;
 }

@@ -1,3 +1,4 @@
 pub mod Limits
+pub mod Lows
 pub mod Made
 pub mod Tries

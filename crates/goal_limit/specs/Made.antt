@@ -3,7 +3,8 @@ use Rattle.std.specs.Prelude.{◌≡◌, ℕ, ◌+◌, ◌-◌, ◌*◌, ◌^◌
 use Rattle.dyadic.specs.Fraction.{Fraction}
 use Rattle.dyadic.specs.Rounding.{Dyadic}
 use Rattle.poly_graph.specs.Term.{constant_node, le}
-use Rattle.poly_graph.specs.FormGraph.{FormNode, atom_node, all_node}
+use Rattle.poly_graph.specs.Form.{all_form, atom_is, more_forms, no_forms}
+use Rattle.poly_graph.specs.FormGraph.{FormNode, FormInterned, IsFormGraph, form_at, graph_forms}
 use Rattle.poly_graph.specs.Problem.{atom_at}
 use Rattle.poly_graph.specs.ProblemViews.{Parts, problem_of}
 use Rattle.cert_model.specs.Limited.{limit_size, limit_nodes, is_limit, scale_of, offset_of, has_constant}
@@ -25,16 +26,22 @@ pub record AreConstants (q : Parts) (k : ℕ) (d : Dyadic) (scale offset : Fract
   pub new_scale : has_constant q.nodes scale ≡ false
   pub new_offset : has_constant (constant_node scale ∷ q.nodes) offset ≡ false
 
--- where a form has n nodes: atom j, and it beside the root
-abbrev pub limit_forms : ℕ → ℕ → ℕ → List FormNode
-limit_forms n root j = atom_node j ∷ all_node (root ∷ n ∷ []) ∷ []
+-- a shared form with this node, which stood there or was added at the end under number k
+pub record HasNode (old : List FormNode) (n : FormNode) (new : List FormNode) (k : ℕ) : Type 0 where
+  pub graph : IsFormGraph new
+  pub interned : FormInterned old new n k
 
--- the same of parts
-abbrev pub limit_parts : Parts → ℕ → Fraction → Fraction → Parts
-limit_parts q g scale offset = record {
+-- number k is that of the root of the old form and of atom j together
+pub record IsLimitForm (old : List FormNode) (root j : ℕ) (new : List FormNode) (k : ℕ) : Type 0 where
+  pub there : k < length new
+  pub form : form_at (graph_forms new) k ≡ all_form (more_forms (form_at (graph_forms old) root) (more_forms (atom_is j) no_forms))
+
+-- the parts of the problem with a limit, where its form and the root of that are these
+abbrev pub limit_parts : Parts → ℕ → Fraction → Fraction → List FormNode → ℕ → Parts
+limit_parts q g scale offset forms root = record {
   axes = q.axes;
   nodes = q.nodes ++ limit_nodes (length q.nodes) (atom_at (problem_of q) g).0 scale offset;
   atoms = q.atoms ++ ((length q.nodes + 3, le) ∷ []);
-  forms = q.forms ++ limit_forms (length q.forms) q.root (length q.atoms);
-  root = length q.forms + 1;
+  forms = forms;
+  root = root;
 }

@@ -3,14 +3,14 @@ ghost use Rattle.std.specs.Prelude.{◌≡◌, ◌+◌, ◌<◌, ◌≤◌, [], 
 ghost use Rattle.dyadic.specs.Views.{fraction_of_frac};
 ghost use Rattle.poly_graph.specs.Term.{constant_node, le};
 ghost use Rattle.poly_graph.specs.Shared.{most_nodes};
-ghost use Rattle.poly_graph.specs.FormGraph.{forms_size, most_forms};
 ghost use Rattle.poly_graph.specs.ProblemViews.{problem_of};
 ghost use Rattle.poly_graph.specs.Views.{atom_of};
-ghost use Rattle.cert_model.specs.Limited.{has_constant, have_atom, has_room, limit_nodes, with_limit};
-ghost use Rattle.goal_limit.specs.Made.{limit_forms};
+ghost use Rattle.cert_model.specs.Limited.{has_constant, limit_nodes, with_limit};
+ghost use Rattle.goal_limit.specs.Limits.{has_room};
 
 use crate::constants::Constants;
-use poly_graph::{Atom, FormGraph, FormNode, Graph, Kind, Node, Problem};
+use crate::forms::forms_with;
+use poly_graph::{Atom, Graph, Kind, Node, Problem};
 use std::alloc::{AllocError, Global};
 
 // The graph with the nodes of the limit of node `term`.
@@ -51,24 +51,6 @@ fn atoms_with(alloc: Global, atoms: &[Atom], term: u32) -> Result<Vec<Atom>, All
     Ok(all)
 }
 
-// The form with the atom, and with that beside the root.
-fn forms_with(
-    alloc: Global,
-    forms: &FormGraph,
-    root: u32,
-    atom: u32,
-) -> Result<FormGraph, AllocError>
-    requires room { forms_size forms.now + 4 ≤ most_forms }
-    requires root { root < length forms.now }
-    requires atom { have_atom forms.now atom ≡ false }
-    ensures { IfOk result (λ g. g ≡ forms.now ++ limit_forms (length forms.now) root atom) }
-{
-    let n = forms.len();
-    let both = Vec::from_slice(alloc, &[root, n as u32])?;
-    let more = [FormNode::AtomIs(atom), FormNode::And(both)];
-    FormGraph::joined(alloc, forms, n, &more)
-}
-
 /// The problem with the limit of these constants.
 pub(crate) fn extended(
     alloc: Global,
@@ -77,7 +59,7 @@ pub(crate) fn extended(
     constants: Constants,
 ) -> Result<Problem, AllocError>
     requires goal { goal < length problem.now.atoms }
-    requires room { has_room problem.now ≡ true }
+    requires room { has_room (problem_of problem.now) ≡ true }
     requires scale { has_constant problem.now.nodes (fraction_of_frac constants.scale) ≡ false }
     requires offset { has_constant
         (constant_node (fraction_of_frac constants.scale) ∷ problem.now.nodes)
@@ -88,10 +70,9 @@ pub(crate) fn extended(
     let atom = problem.atoms().len() as u32;
     let term = problem.atoms()[goal as usize].term;
     let nodes = problem.graph().len() as u32;
-    let root = problem.forms().len() as u32 + 1;
     let graph = graph_with(alloc, problem.graph(), term, constants)?;
     let atoms = atoms_with(alloc, problem.atoms(), nodes + 3)?;
-    let forms = forms_with(alloc, problem.forms(), problem.root(), atom)?;
+    let (forms, root) = forms_with(alloc, problem.forms(), problem.root(), atom)?;
     let axes = Vec::from_clones(alloc, problem.axes())?;
     Ok(Problem::new(axes, graph, atoms, forms, root))
 }

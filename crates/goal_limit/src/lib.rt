@@ -4,6 +4,7 @@
 
 mod constants;
 mod extended;
+mod forms;
 mod room;
 
 ghost use Rattle.std.specs.Prelude.{◌<◌, length, IfOk};
@@ -18,7 +19,13 @@ use poly_graph::Problem;
 use std::alloc::{AllocError, Global};
 
 /// The problem with one more conjunct, that the goal, the term of atom `goal`, is at most `limit`, a multiple of
-/// `2^-bits`; none where `limit` can't be a limit in these bits, or the problem has no room for one.
+/// `2^-bits`; none where `limit` can't be a limit in these bits, or the problem has no room for one among its nodes and
+/// atoms.
+///
+/// # Errors
+///
+/// Out of memory, also where the shared form has no place for the limit: how much of that is used is not a matter of the
+/// problem.
 pub fn limited(
     alloc: Global,
     problem: &Problem,

@@ -1,6 +1,8 @@
 pub mod Aims
+pub mod Ends
 pub mod First
 pub mod Near
+pub mod RootBounds
 pub mod Rows
 pub mod Searches
 pub mod Shown

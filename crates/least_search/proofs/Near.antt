@@ -1,13 +1,15 @@
 -- The order of ends, lower bounds of some values, and bounds that are near to each other.
-use Rattle.std.proofs.Common.{◌≡◌, inl, inr, ℕ, true, false, ◌&&◌, IsTrue, Some, refl, ap, ap₂, sym, ◌∙◌, subst, true≢false}
+use Rattle.std.proofs.Common.{◌≡◌, inl, inr, ℕ, Bool, true, false, not, ◌&&◌, IsTrue, refl, ap, ap₂, sym, ◌∙◌, subst, true≢false}
 use Rattle.std.proofs.lemmas.Nat.{pow_pos}
-use Rattle.dyadic.specs.Fraction.{Fraction, sum_of}
-use Rattle.dyadic.specs.Rounding.{Dyadic, Ext, finite, below_all, above_all, End, minus_infinity, at, plus_infinity, exact, end_of, end_at_most, ext_at_most, down, two_to_minus}
-use Rattle.dyadic.proofs.Equal.{through, total}
-use Rattle.dyadic.proofs.Rounds.{down_side, exact_self}
-use Rattle.interval_model.specs.Interval.{between, within}
+use Rattle.dyadic.specs.Fraction.{Fraction, IsFraction, sum_of}
+use Rattle.dyadic.specs.Rounding.{Dyadic, Ext, IsExtOnGrid, finite, below_all, above_all, End, minus_infinity, at, plus_infinity, exact, end_of, end_at_most, ext_at_most, down, two_to_minus}
+use Rattle.dyadic.proofs.Equal.{both_pass, both_true, through, total}
+use Rattle.dyadic.proofs.Rounds.{down_exact, down_isotone, down_side, exact_self}
+use Rattle.interval_model.specs.Interval.{Interval, between, nothing, within}
 use Rattle.interval_model.proofs.EndsSums.{sum_is_good}
-use Rattle.cert_model.specs.Least.{not_below}
+use Rattle.cert_model.specs.Least.{lower_end, not_below}
+use Rattle.goal_limit.specs.Lows.{low_of}
+use Rattle.goal_limit.specs.Tries.{Span, is_between}
 
 below-infinity : (h : Ext) → ext_at_most h above_all ≡ true
 below-infinity below_all = refl
@@ -42,9 +44,40 @@ at_most_through above_all (finite c) g h k = absurd (true≢false (sym h))
 at_most_through above_all above_all below_all h k = absurd (true≢false (sym k))
 at_most_through above_all above_all (finite b) h k = absurd (true≢false (sym k))
 
--- values are not below their lower end
-pub not_below_low : (d : Dyadic) (h : Ext) → within (between (finite d) h) (not_below (Some d)) ≡ true
-not_below_low d h = ap₂ (λ a b. a && b) (exact_self d) (below-infinity h)
+-- values are not below their lower end, where that is a number
+pub within_low : (i : Interval) → within i (not_below (low_of i)) ≡ true
+within_low nothing = refl
+within_low (between below_all h) = below-infinity h
+within_low (between (finite d) h) = ap₂ (λ a b. a && b) (exact_self d) (below-infinity h)
+within_low (between above_all h) = below-infinity h
+
+-- ---- spans
+
+is-false : (b : Bool) → not b ≡ true → b ≡ false
+is-false false h = refl
+is-false true h = absurd (true≢false (sym h))
+
+not-most : (e f g : Ext) → ext_at_most g f ≡ true → ext_at_most e f ≡ false → (b : Bool) → ext_at_most e g ≡ b → not b ≡ true
+not-most e f g h k true is = absurd (true≢false (sym (at_most_through e g f is h) ∙ k))
+not-most e f g h k false is = refl
+
+not-least : (e f g : Ext) → ext_at_most f g ≡ true → ext_at_most f e ≡ false → (b : Bool) → ext_at_most g e ≡ b → not b ≡ true
+not-least e f g h k true is = absurd (true≢false (sym (at_most_through f g e h is) ∙ k))
+not-least e f g h k false is = refl
+
+-- what lies between some bounds lies between bounds that are no nearer
+pub between_wider : (s t : Span) (e : Ext) → ext_at_most (lower_end t.low) (lower_end s.low) ≡ true → ext_at_most s.high t.high ≡ true → is_between s e ≡ true → is_between t e ≡ true
+between_wider s t e low high h =
+    let both = both_true (not (ext_at_most e (lower_end s.low))) (not (ext_at_most s.high e)) h in
+    both_pass (not (ext_at_most e (lower_end t.low))) (not (ext_at_most t.high e))
+    (not-most e (lower_end s.low) (lower_end t.low) low (is-false _ both.0) (ext_at_most e (lower_end t.low)) refl)
+    (not-least e s.high t.high high (is-false _ both.1) (ext_at_most t.high e) refl)
+
+-- and above the lower one
+pub between_above : (s : Span) (e : Ext) → is_between s e ≡ true → ext_at_most (lower_end s.low) e ≡ true
+between_above s e h = at_most_otherwise e (lower_end s.low) (is-false _ (both_true (not (ext_at_most e (lower_end s.low))) (not (ext_at_most s.high e)) h).0)
+
+-- ---- bounds that are near
 
 end-through : (e : End) (d : Ext) (q : Fraction) → end_at_most e (end_of d) ≡ true → end_at_most (end_of d) (at q) ≡ true → end_at_most e (at q) ≡ true
 end-through minus_infinity d q h k = refl
@@ -63,3 +96,16 @@ settled gap low t s upper e f h =
     let is : s ≡ down q = f ∙ ap (λ (d : Dyadic). down (sum_of (exact low) (exact d))) e in
     end-through (end_of upper) (down q) q (subst (λ (x : Ext). ext_at_most upper x ≡ true) is h)
     (down_side q (sum_is_good (exact low) (exact (two_to_minus gap)) (pow_pos 120) (pow_pos 120)))
+
+-- and what is at most their sum is at most that rounded down, since it is kept itself
+pub settled_down : (gap : ℕ) (low t : Dyadic) (s upper : Ext) → IsExtOnGrid upper → t ≡ two_to_minus gap → s ≡ down (sum_of (exact low) (exact t)) →
+    IsTrue (end_at_most (end_of upper) (at (sum_of (exact low) (exact (two_to_minus gap))))) → ext_at_most upper s ≡ true
+settled_down gap low t s upper grid e f h =
+    let q : Fraction = sum_of (exact low) (exact (two_to_minus gap)) in
+    let is : s ≡ down q = f ∙ ap (λ (d : Dyadic). down (sum_of (exact low) (exact d))) e in
+    subst (λ (x : Ext). ext_at_most upper x ≡ true) (sym is) (kept-below upper q grid (sum_is_good (exact low) (exact (two_to_minus gap)) (pow_pos 120) (pow_pos 120)) h)
+  where
+    kept-below : (u : Ext) (q : Fraction) → IsExtOnGrid u → IsFraction q → IsTrue (end_at_most (end_of u) (at q)) → ext_at_most u (down q) ≡ true
+    kept-below below_all q g good k = refl
+    kept-below (finite d) q g good k = subst (λ (x : Ext). ext_at_most x (down q) ≡ true) (down_exact d g) (down_isotone (exact d) q (pow_pos 120) good k)
+    kept-below above_all q g good k = absurd (true≢false (sym k))

@@ -16,9 +16,9 @@ use Rattle.cover_model.specs.Fits.{IsShownAt}
 use Rattle.cover_data.specs.Margins.{loosenings_of}
 use Rattle.cover_data.specs.declared.margins.Margins.{Margins}
 use Rattle.cover_data.specs.declared.margins.Options.{Options}
-use Rattle.cert_model.specs.Limited.{is_limit, limited, has_room}
+use Rattle.cert_model.specs.Limited.{is_limit, limited}
 use Rattle.cert_model.proofs.Limited.{limited_term}
-use Rattle.goal_limit.specs.Limits.{takes_limit}
+use Rattle.goal_limit.specs.Limits.{has_room, takes_limit}
 use Rattle.cover_book.specs.Keeps.{IsBook}
 use Rattle.cover_book.specs.Model.{BookModel, problem_in, loosenings_in, margins_of}
 use Rattle.dyadic.specs.Views.{dyadic_of}
@@ -64,14 +64,14 @@ module _ (p : Problem) (good : IsProblem p) (g : ℕ) (there : g < length p.atom
   shown-for s x h = record { single = h.single; surely = still-sure s x h.surely; near = h.near }
 
 -- the limit is one
-is-one : (q : Parts) (k : ℕ) (d : Dyadic) → takes_limit q k d ≡ true → IsTrue (is_limit (problem_of q) k d)
-is-one q k d h = (both_true (has_room q) (is_limit (problem_of q) k d) h).1
+is-one : (p : Problem) (k : ℕ) (d : Dyadic) → takes_limit p k d ≡ true → IsTrue (is_limit p k d)
+is-one p k d h = (both_true (has_room p) (is_limit p k d) h).1
 
 -- what a book of the problem with a limit shows is shown for the problem
-shown-before : (q : Parts) → IsWhole q → (g : ℕ) → g < length q.atoms → (k : ℕ) (d : Dyadic) → takes_limit q k d ≡ true → (p : Problem) → p ≡ limited (problem_of q) g k d →
+shown-before : (q : Parts) → IsWhole q → (g : ℕ) → g < length q.atoms → (k : ℕ) (d : Dyadic) → takes_limit (problem_of q) k d ≡ true → (p : Problem) → p ≡ limited (problem_of q) g k d →
     (m n : Margins) → m ≡ n → (x : Space) → IsShownAt p (loosenings_of m) x → IsShownAt (problem_of q) (loosenings_of n) x
 shown-before q w g there k d takes p e m n f x h =
-    shown-for (problem_of q) w.problem g there k d (is-one q k d takes) (loosenings_of n) x
+    shown-for (problem_of q) w.problem g there k d (is-one (problem_of q) k d takes) (loosenings_of n) x
     (subst (λ (r : Problem). IsShownAt r (loosenings_of n) x) e (subst (λ (l : Margins). IsShownAt p (loosenings_of l) x) f h))
 
 -- ---- books with a point

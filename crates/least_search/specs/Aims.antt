@@ -1,12 +1,11 @@
 -- A goal, what is asked of its least value, and what its enclosure over the declared box shows.
-use Rattle.std.specs.Prelude.{◌≡◌, ◌<◌, ◌≤◌, ℕ, Option, true, false, length}
+use Rattle.std.specs.Prelude.{◌≡◌, ◌<◌, ◌≤◌, ℕ, Option, false, length}
 use Rattle.dyadic.specs.Rounding.{Dyadic}
 use Rattle.poly_graph.specs.Problem.{Problem}
 use Rattle.poly_graph.specs.ProblemViews.{IsWhole}
-use Rattle.cover_model.specs.State.{root_state}
 use Rattle.ival.specs.RowViews.{rows_of}
 use Rattle.cert_model.specs.Due.{is_crossed_box}
-use Rattle.cert_model.specs.Least.{is_over}
+use Rattle.goal_limit.specs.Lows.{root_low}
 use Rattle.cover_book.specs.Limits.{IsWithinLimits}
 use Rattle.least_search.specs.declared.aim.Aim.{Aim}
 
@@ -25,6 +24,6 @@ pub record IsSameAim (old new : Aim) : Type 0 where
   pub gap : new.gap_bits ≡ old.gap_bits
   pub options : new.options ≡ old.options
 
--- over the declared box, where that is not empty, the goal's enclosure is not below the bound
+-- where the declared box is not empty, the bound is the lower end of the goal's enclosure over it
 abbrev pub IsRootBound : Problem → ℕ → Option Dyadic → Type 0
-IsRootBound p g low = is_crossed_box p ≡ false → is_over p g low (root_state p).space ≡ true
+IsRootBound p g low = is_crossed_box p ≡ false → low ≡ root_low p g

@@ -1,11 +1,12 @@
 -- The limit of the next search.
 use Rattle.std.specs.Prelude.{◌≡◌, ◌<◌, ◌≤◌, ℕ, true, Option, Some, None, length, option_map}
 pub use Rattle.dyadic.specs.End.{lesser_ext}
-use Rattle.dyadic.specs.Rounding.{Ext, finite}
+use Rattle.dyadic.specs.Rounding.{Ext, finite, ext_at_most}
 use Rattle.dyadic.specs.Views.{dyadic_of, ext_of}
+use Rattle.dyadic.specs.declared.dy.Dy.{Dy}
 use Rattle.poly_graph.specs.ProblemViews.{Parts, problem_of}
-use Rattle.cert_model.specs.Limited.{has_room, limited}
-use Rattle.goal_limit.specs.Limits.{takes_limit}
+use Rattle.cert_model.specs.Limited.{limited}
+use Rattle.goal_limit.specs.Limits.{has_room, takes_limit}
 pub use Rattle.goal_limit.specs.Tries.{Span, bits_at, closing_target, half_target, is_between, multiple_up, neighbour, tries, with_steps}
 use Rattle.goal_limit.specs.Tries as near
 use Rattle.least_search.specs.declared.limits.Between.{Between}
@@ -24,17 +25,17 @@ limit_at p s i = near.limit_at (target p s) s i
 
 -- it gives no limit
 abbrev pub IsVain : Parts → Phase → Span → ℕ → Type 0
-IsVain q p s i = near.IsVain (problem_of q) (has_room q) (target p s) s i
+IsVain q p s i = near.IsVain (problem_of q) (has_room (problem_of q)) (target p s) s i
 
 -- no try gives one
 abbrev pub HasNoLimit : Parts → Phase → Span → Type 0
-HasNoLimit q p s = near.HasNoLimit (problem_of q) (has_room q) (target p s) s
+HasNoLimit q p s = near.HasNoLimit (problem_of q) (has_room (problem_of q)) (target p s) s
 
 -- ---- what is given
 
 -- a problem with a limit of its goal, which may be searched
 pub record IsLimited (q : Parts) (g : ℕ) (l : Limited) : Type 0 where
-  pub takes : takes_limit q l.bits (dyadic_of l.limit) ≡ true
+  pub takes : takes_limit (problem_of q) l.bits (dyadic_of l.limit) ≡ true
   pub problem : problem_of l.problem ≡ limited (problem_of q) g l.bits (dyadic_of l.limit)
   pub few : length l.problem.atoms ≤ 65536
 
@@ -64,3 +65,14 @@ IsNextLimit q g p s (Some l) = IsNext q g p s l
 
 abbrev pub span_in : Between → Span
 span_in b = record { low = option_map dyadic_of b.lower; high = ext_of b.upper; gap = b.gap_bits }
+
+-- ---- limits at which a probe decided nothing
+
+-- there is none, or it is not below this
+abbrev pub IsNotBelow : Ext → Option Dy → Type 0
+IsNotBelow low None = Unit {0}
+IsNotBelow low (Some d) = ext_at_most low (finite (dyadic_of d)) ≡ true
+
+-- what is not below one of these is not below the other
+abbrev pub StaysAbove : Option Dy → Dy → Option Dy → Type 0
+StaysAbove old d new = (low : Ext) → IsNotBelow low old → ext_at_most low (finite (dyadic_of d)) ≡ true → IsNotBelow low new

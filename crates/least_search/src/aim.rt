@@ -1,12 +1,12 @@
 // A goal, and its enclosures.
-ghost use Rattle.std.specs.Prelude.{◌≡◌, ◌<◌, ◌≤◌, true, IfOk, length, option_map};
+ghost use Rattle.std.specs.Prelude.{◌≡◌, ◌<◌, ◌≤◌, IfOk, length, option_map};
 ghost use Rattle.dyadic.specs.Views.{dyadic_of, ext_of};
-ghost use Rattle.interval_model.specs.Interval.{within};
 ghost use Rattle.poly_graph.specs.Problem.{atom_at};
 ghost use Rattle.poly_graph.specs.ProblemViews.{problem_of};
 ghost use Rattle.cover_model.specs.State.{atom_enclosure};
-ghost use Rattle.cert_model.specs.Least.{not_below, upper_at, upper_end};
+ghost use Rattle.cert_model.specs.Least.{upper_at, upper_end};
 ghost use Rattle.cover_book.specs.Limits.{IsWithinLimits};
+ghost use Rattle.goal_limit.specs.Lows.{low_of};
 ghost use Rattle.ival.specs.Views.{interval_of};
 ghost use Rattle.ival.specs.RowViews.{rows_of};
 ghost use Rattle.ival.specs.SpaceViews.{space_of};
@@ -63,9 +63,9 @@ fn upper_end(values: Ival) -> Ext
     }
 }
 
-// A bound below which none of the values lies; none for minus infinity.
+// The lower end of some values; none where it is no number.
 fn lower_bound(values: Ival) -> Option<Dy>
-    ensures { within (interval_of values) (not_below (option_map dyadic_of result)) ≡ true }
+    ensures { option_map dyadic_of result ≡ low_of (interval_of values) }
 {
     match values {
         Ival::Empty => None,

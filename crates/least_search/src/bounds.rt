@@ -1,10 +1,10 @@
 // The bounds of a goal.
-ghost use Rattle.std.specs.Prelude.{◌≡◌, ◌≤◌, true, option_map};
+ghost use Rattle.std.specs.Prelude.{◌≡◌, ◌≤◌, true, OnOk, option_map};
 ghost use Rattle.dyadic.specs.Rounding.{ext_at_most};
 ghost use Rattle.dyadic.specs.Views.{dyadic_of, ext_of};
 ghost use Rattle.cert_model.specs.Least.{IsSettled};
 ghost use Rattle.least_search.specs.Aims.{IsReady, IsSameAim};
-ghost use Rattle.least_search.specs.Found.{AreBoundsOf, IsShownFor};
+ghost use Rattle.least_search.specs.Found.{AreBoundsOf, IsKeptFor, IsShownFor};
 
 use crate::aim::Aim;
 use crate::found::Lower;
@@ -29,7 +29,8 @@ pub(crate) struct Bounds {
 /// Whether the bounds are as near as was asked.
 pub(crate) fn is_settled(lower: Option<Dy>, upper: Ext, gap_bits: u32) -> bool
     requires { gap_bits ≤ 30 }
-    ensures { result ≡ true → IsSettled gap_bits (option_map dyadic_of lower) (ext_of upper) }
+    ensures near { result ≡ true → IsSettled gap_bits (option_map dyadic_of lower) (ext_of upper) }
+    ensures far { IsSettled gap_bits (option_map dyadic_of lower) (ext_of upper) → result ≡ true }
 {
     match lower {
         Some(lower) => {
@@ -55,12 +56,15 @@ pub(crate) fn take_point(
     ensures same { IsSameAim aim.old aim.new }
     ensures bounds { AreBoundsOf aim.old bounds.new }
     ensures better { ext_at_most (ext_of bounds.new.upper) (ext_of bounds.old.upper) ≡ true }
+    ensures kept { OnOk result (IsKeptFor aim.old bounds.new point.now) }
     ensures budget { bounds.new.budget ≡ bounds.old.budget }
+    ensures lower { bounds.new.lower ≡ bounds.old.lower }
 {
     let upper = aim.upper(point.space());
-    if !at_most(bounds.upper, upper) {
-        bounds.point = point.try_clone(alloc)?;
-        bounds.upper = upper;
+    if at_most(bounds.upper, upper) {
+        return Ok(());
     }
+    bounds.point = point.try_clone(alloc)?;
+    bounds.upper = upper;
     Ok(())
 }

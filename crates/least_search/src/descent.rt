@@ -1,12 +1,12 @@
 // Better points near the best one, to which descents in floats lead: each is tested exactly.
-ghost use Rattle.std.specs.Prelude.{◌≡◌, ◌≤◌, true, IfOk, IfSome};
+ghost use Rattle.std.specs.Prelude.{◌≡◌, ◌≤◌, true, IfOk, IfSome, OnOk};
 ghost use Rattle.dyadic.specs.Rounding.{ext_at_most};
 ghost use Rattle.dyadic.specs.Views.{ext_of};
 ghost use Rattle.poly_graph.specs.ProblemViews.{problem_of};
 ghost use Rattle.cover_model.specs.Root.{root_space};
 ghost use Rattle.ival.specs.SpaceViews.{space_of};
 ghost use Rattle.least_search.specs.Aims.{IsReady, IsSameAim};
-ghost use Rattle.least_search.specs.Found.{AreBoundsOf, IsShownFor};
+ghost use Rattle.least_search.specs.Found.{AreBoundsOf, IsKeptFor, IsShownFor};
 
 use crate::aim::Aim;
 use crate::bounds::{Bounds, take_point};
@@ -88,6 +88,7 @@ fn descend_once(
     ensures bounds { AreBoundsOf aim.old bounds.new }
     ensures better { ext_at_most (ext_of bounds.new.upper) (ext_of bounds.old.upper) ≡ true }
     ensures budget { bounds.new.budget ≡ bounds.old.budget }
+    ensures lower { bounds.new.lower ≡ bounds.old.lower }
 {
     let before = bounds.upper;
     let Some(point) = lower_point(alloc, aim, root, &bounds.point)? else {
@@ -113,6 +114,7 @@ fn descents(
     ensures bounds { AreBoundsOf aim.old bounds.new }
     ensures better { ext_at_most (ext_of bounds.new.upper) (ext_of bounds.old.upper) ≡ true }
     ensures budget { bounds.new.budget ≡ bounds.old.budget }
+    ensures lower { bounds.new.lower ≡ bounds.old.lower }
 {
     for _ in 0..MOST_DESCENTS {
         if !descend_once(alloc, aim, bounds, root)? {
@@ -137,6 +139,7 @@ pub(crate) fn go_down(
     ensures bounds { AreBoundsOf aim.old bounds.new }
     ensures better { ext_at_most (ext_of bounds.new.upper) (ext_of bounds.old.upper) ≡ true }
     ensures budget { bounds.new.budget ≡ bounds.old.budget }
+    ensures lower { bounds.new.lower ≡ bounds.old.lower }
 {
     let Root::Space(root) = root_space(alloc, aim.problem)? else {
         return Ok(());
@@ -163,7 +166,9 @@ pub(crate) fn take_valley(
     ensures same { IsSameAim aim.old aim.new }
     ensures bounds { AreBoundsOf aim.old bounds.new }
     ensures better { ext_at_most (ext_of bounds.new.upper) (ext_of bounds.old.upper) ≡ true }
+    ensures kept { OnOk result (IsKeptFor aim.old bounds.new point.now) }
     ensures budget { bounds.new.budget ≡ bounds.old.budget }
+    ensures lower { bounds.new.lower ≡ bounds.old.lower }
 {
     take_point(alloc, aim, bounds, point)?;
     go_down(alloc, aim, bounds)

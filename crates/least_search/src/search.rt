@@ -1,13 +1,16 @@
 // The search for a least value.
-ghost use Rattle.std.specs.Prelude.{◌≡◌, ◌<◌, ◌≤◌, true, false, IfOk, None, Some, length};
-ghost use Rattle.dyadic.specs.Rounding.{finite};
+ghost use Rattle.std.specs.Prelude.{◌≡◌, ◌≢◌, ◌+◌, ◌<◌, ◌≤◌, true, false, IfOk, None, OnOk, Some, length, option_map};
+ghost use Rattle.dyadic.specs.Rounding.{ext_at_most};
 ghost use Rattle.dyadic.specs.Views.{dyadic_of};
 ghost use Rattle.poly_graph.specs.ProblemViews.{problem_of};
 ghost use Rattle.cert_model.specs.Due.{is_crossed_box};
+ghost use Rattle.cert_model.specs.Least.{lower_end};
 ghost use Rattle.cover_book.specs.Limits.{IsWithinLimits};
+ghost use Rattle.cover_book.specs.Verdict.{verdict_of};
+ghost use Rattle.cover_book.specs.declared.verdict.BookVerdict.TheVariants as verdicts;
 ghost use Rattle.least_search.specs.Aims.{IsReady, IsSameAim};
-ghost use Rattle.least_search.specs.Found.{AreBoundsOf, IsBookOf, IsEndingAt, IsFound, IsLeast, IsSearchOf, IsShownFor, LeavesOf, bound_of, span_of, weight};
-ghost use Rattle.least_search.specs.Limits.{IsLimited, is_between};
+ghost use Rattle.least_search.specs.Found.{AreBoundsOf, AreFar, BeginsFor, IsBookOf, IsEndingAt, IsFound, IsLeast, IsNextSearch, IsSearchOf, IsShownFor, bound_of, span_of, weight};
+ghost use Rattle.least_search.specs.Limits.{IsLimited, IsNotBelow, StaysAbove, span_in};
 ghost use Rattle.least_search.specs.declared.limits.Phase.TheVariants as phase;
 
 use crate::aim::Aim;
@@ -69,8 +72,11 @@ fn next_phase(phase: Phase, verdict: BookVerdict, near: bool) -> Phase {
     }
 }
 
-// The last limit at which a probe decided nothing, behind a search of this verdict.
-fn next_tried(phase: Phase, verdict: BookVerdict, tried: Option<Dy>, limit: Dy) -> Option<Dy> {
+// The last limit at which a probe decided nothing, behind a search of this verdict; none where the limit is a lower bound.
+fn next_tried(phase: Phase, verdict: BookVerdict, tried: Option<Dy>, limit: Dy) -> Option<Dy>
+    ensures closed { verdict ≡ verdicts.Unsat → result ≡ None }
+    ensures above { StaysAbove tried limit result }
+{
     match (phase, verdict) {
         (Phase::Probing, BookVerdict::DeltaSat) => tried,
         (Phase::Probing, BookVerdict::UnknownBudget | BookVerdict::UnknownWidth) => Some(limit),
@@ -92,7 +98,7 @@ fn search_limited<F: Fn(Global, &Problem, &Options) -> Result<Book, AllocError>>
     searcher: &F,
     alloc: Global,
     aim: &Aim<'_>,
-    bounds: &mut Bounds,
+    bounds: &Bounds,
     limited: &Limited,
 ) -> Result<Book, AllocError>
     requires takes { (a p o : _) → IsWithinLimits p.now o.now → F.pre searcher.now a p o }
@@ -100,12 +106,10 @@ fn search_limited<F: Fn(Global, &Problem, &Options) -> Result<Book, AllocError>>
         IfOk r (IsBookOf p.now o.now) }
     requires ready { IsReady aim.now }
     requires limited { IsLimited aim.now.problem.now aim.now.goal limited.now }
-    requires bounds { AreBoundsOf aim.now bounds.old }
-    requires budget { 0 < bounds.old.budget }
+    requires bounds { AreBoundsOf aim.now bounds.now }
+    requires budget { 0 < bounds.now.budget }
     ensures book { IfOk result (IsSearchOf aim.now limited.now) }
-    ensures bounds { AreBoundsOf aim.now bounds.new }
-    ensures same { bounds.new ≡ record bounds.old { budget = bounds.new.budget } }
-    ensures less { IfOk result (λ b. bounds.new.budget < bounds.old.budget) }
+    ensures less { IfOk result (λ b. b.branches < bounds.now.budget) }
 {
     let options = Options {
         budget: share(
@@ -117,8 +121,116 @@ fn search_limited<F: Fn(Global, &Problem, &Options) -> Result<Book, AllocError>>
         ..*aim.options
     };
     let book = searcher(alloc, &limited.problem, &options)?;
-    bounds.budget -= 1 + book.branches();
     Ok(book)
+}
+
+// The book leaves nothing of the problem with a limit: that is the lower bound now.
+fn take_closed(aim: &Aim<'_>, bounds: &mut Bounds, limited: Limited, book: Book)
+    requires bounds { AreBoundsOf aim.now bounds.old }
+    requires search { IsNextSearch aim.now bounds.old limited book }
+    requires closed { verdict_of book ≡ verdicts.Unsat }
+    requires tried { bounds.old.tried ≡ None }
+    ensures bounds { AreBoundsOf aim.now bounds.new }
+    ensures less { bounds.new.budget < bounds.old.budget }
+{
+    bounds.budget -= 1 + book.branches();
+    bounds.lower = Lower::Limit(book, limited.bits, limited.limit);
+}
+
+// The book of a problem with a limit decided nothing.
+fn take_undecided(aim: &Aim<'_>, bounds: &mut Bounds, limited: &Limited, book: &Book)
+    requires bounds { AreBoundsOf aim.now bounds.old }
+    requires search { IsNextSearch aim.now bounds.old limited.now book.now }
+    requires undecided { verdict_of book.now ≢ verdicts.Unsat }
+    requires no_point { book.now.point ≡ None }
+    ensures bounds { AreBoundsOf aim.now bounds.new }
+    ensures same { bounds.new ≡ record bounds.old { budget = bounds.new.budget } }
+    ensures less { bounds.new.budget < bounds.old.budget }
+{
+    bounds.budget -= 1 + book.branches();
+}
+
+// The book of a problem with a limit has a point: the best one is at least as good then.
+fn take_found(
+    alloc: Global,
+    aim: &mut Aim<'_>,
+    bounds: &mut Bounds,
+    limited: &Limited,
+    book: &Book,
+) -> Result<(), AllocError>
+    requires ready { IsReady aim.old }
+    requires bounds { AreBoundsOf aim.old bounds.old }
+    requires search { IsNextSearch aim.old bounds.old limited.now book.now }
+    requires undecided { verdict_of book.now ≢ verdicts.Unsat }
+    ensures ready { IsReady aim.new }
+    ensures same { IsSameAim aim.old aim.new }
+    ensures bounds { AreBoundsOf aim.old bounds.new }
+    ensures less { OnOk result (bounds.new.budget < bounds.old.budget) }
+{
+    let Some(point) = book.point() else {
+        take_undecided(aim, bounds, limited, book);
+        return Ok(());
+    };
+    take_valley(alloc, aim, bounds, point)?;
+    bounds.budget -= 1 + book.branches();
+    Ok(())
+}
+
+// What comes of the book of a problem with a limit, by its verdict.
+fn take_by_verdict(
+    alloc: Global,
+    aim: &mut Aim<'_>,
+    bounds: &mut Bounds,
+    limited: Limited,
+    book: Book,
+    phase: Phase,
+) -> Result<Option<Ending>, AllocError>
+    requires ready { IsReady aim.old }
+    requires bounds { AreBoundsOf aim.old bounds.old }
+    requires far { AreFar (span_of aim.old.gap_bits bounds.old) }
+    requires search { IsNextSearch aim.old bounds.old limited book }
+    requires tried { verdict_of book ≡ verdicts.Unsat → bounds.old.tried ≡ None }
+    ensures ready { IsReady aim.new }
+    ensures same { IsSameAim aim.old aim.new }
+    ensures bounds { AreBoundsOf aim.old bounds.new }
+    ensures ending { IfOk result (IsEndingAt aim.old bounds.new) }
+    ensures less { OnOk result (bounds.new.budget < bounds.old.budget) }
+{
+    match book.verdict() {
+        BookVerdict::Unsat => {
+            take_closed(aim, bounds, limited, book);
+            Ok(None)
+        }
+        BookVerdict::DeltaSat => {
+            take_found(alloc, aim, bounds, &limited, &book)?;
+            Ok(None)
+        }
+        BookVerdict::UnknownBudget => {
+            take_undecided(aim, bounds, &limited, &book);
+            Ok(None)
+        }
+        BookVerdict::UnknownWidth => {
+            take_undecided(aim, bounds, &limited, &book);
+            match phase {
+                Phase::Halving => Ok(Some(Ending::Width)),
+                Phase::Probing | Phase::Closing => Ok(None),
+            }
+        }
+        BookVerdict::NotYet => unreachable!(),
+    }
+}
+
+// What the next search is for, behind one of this verdict and limit, and with which budget at least.
+fn plan_next(bounds: &mut Bounds, verdict: BookVerdict, limit: Dy, near: bool)
+    ensures same { bounds.new ≡ record bounds.old
+        { phase = bounds.new.phase; tried = bounds.new.tried; patience = bounds.new.patience } }
+    ensures closed { verdict ≡ verdicts.Unsat → bounds.new.tried ≡ None }
+    ensures above { StaysAbove bounds.old.tried limit bounds.new.tried }
+{
+    let phase = bounds.phase;
+    bounds.phase = next_phase(phase, verdict, near);
+    bounds.tried = next_tried(phase, verdict, bounds.tried, limit);
+    bounds.patience = next_patience(phase, verdict, bounds.patience);
 }
 
 // What comes of the book of a problem with a limit.
@@ -131,46 +243,29 @@ fn take_book(
 ) -> Result<Option<Ending>, AllocError>
     requires ready { IsReady aim.old }
     requires bounds { AreBoundsOf aim.old bounds.old }
-    requires limited { IsLimited aim.old.problem.now aim.old.goal limited }
-    requires between { bounds.old.phase ≡ phase.Halving →
-        is_between (span_of aim.old.gap_bits bounds.old) (finite (dyadic_of limited.limit)) ≡ true }
-    requires book { IsSearchOf aim.old limited book }
+    requires far { AreFar (span_of aim.old.gap_bits bounds.old) }
+    requires search { IsNextSearch aim.old bounds.old limited book }
     ensures ready { IsReady aim.new }
     ensures same { IsSameAim aim.old aim.new }
     ensures bounds { AreBoundsOf aim.old bounds.new }
-    ensures budget { bounds.new.budget ≡ bounds.old.budget }
     ensures ending { IfOk result (IsEndingAt aim.old bounds.new) }
+    ensures less { OnOk result (bounds.new.budget < bounds.old.budget) }
 {
     let phase = bounds.phase;
-    let verdict = book.verdict();
     let gaps = aim.gap_bits.saturating_sub(1);
     let near = is_settled(Some(limited.limit), bounds.upper, gaps);
-    bounds.phase = next_phase(phase, verdict, near);
-    bounds.tried = next_tried(phase, verdict, bounds.tried, limited.limit);
-    bounds.patience = next_patience(phase, verdict, bounds.patience);
-    match verdict {
-        BookVerdict::Unsat => {
-            bounds.lower = Lower::Limit(book, limited.bits, limited.limit);
-            Ok(None)
-        }
-        BookVerdict::DeltaSat => {
-            if let Some(point) = book.point() {
-                take_valley(alloc, aim, bounds, point)?;
-            }
-            Ok(None)
-        }
-        BookVerdict::UnknownBudget => Ok(None),
-        BookVerdict::UnknownWidth => match phase {
-            Phase::Halving => Ok(Some(Ending::Width)),
-            Phase::Probing | Phase::Closing => Ok(None),
-        },
-        BookVerdict::NotYet => unreachable!(),
-    }
+    plan_next(bounds, book.verdict(), limited.limit, near);
+    take_by_verdict(alloc, aim, bounds, limited, book, phase)
 }
 
 // From where the limit of a probe lies half way to the best value: the last limit at which one decided nothing, if that is
 // below the best value, or the lower bound.
-fn probe_from(lower: Option<Dy>, tried: Option<Dy>, upper: Ext) -> Option<Dy> {
+#[tactic(auto, using(crate::proofs::Near::at_most_itself))]
+fn probe_from(lower: Option<Dy>, tried: Option<Dy>, upper: Ext) -> Option<Dy>
+    requires { IsNotBelow (lower_end (option_map dyadic_of lower)) tried }
+    ensures { ext_at_most (lower_end (option_map dyadic_of lower))
+        (lower_end (option_map dyadic_of result)) ≡ true }
+{
     match tried {
         Some(limit) if !at_most(upper, Ext::Fin(limit)) => Some(limit),
         _ => lower,
@@ -192,6 +287,8 @@ fn probe<F: Fn(Global, &Problem, &Options) -> Result<Book, AllocError>>(
     requires bounds { AreBoundsOf aim.old bounds.old }
     requires phase { bounds.old.phase ≡ phase.Probing }
     requires budget { 0 < bounds.old.budget }
+    requires far { AreFar (span_of aim.old.gap_bits bounds.old) }
+    requires between { span_in between ≡ span_of aim.old.gap_bits bounds.old }
     requires gap { between.gap_bits ≤ 30 }
     ensures ready { IsReady aim.new }
     ensures same { IsSameAim aim.old aim.new }
@@ -285,7 +382,8 @@ fn bounds_of(
 ) -> Result<Bounds, AllocError>
     requires ready { IsReady aim.old }
     requires shown { IsShownFor aim.old point.now }
-    requires searches { LeavesOf aim.old budget }
+    requires begins { BeginsFor aim.old point.now budget }
+    requires crossed { is_crossed_box (problem_of aim.old.problem.now) ≡ false }
     ensures ready { IsReady aim.new }
     ensures same { IsSameAim aim.old aim.new }
     ensures bounds { IfOk result (AreBoundsOf aim.old) }
@@ -331,7 +429,7 @@ fn find<F: Fn(Global, &Problem, &Options) -> Result<Book, AllocError>>(
         IfOk r (IsBookOf p.now o.now) }
     requires ready { IsReady aim.old }
     requires shown { IsShownFor aim.old point.now }
-    requires searches { LeavesOf aim.old budget }
+    requires begins { BeginsFor aim.old point.now budget }
     requires crossed { is_crossed_box (problem_of aim.old.problem.now) ≡ false }
     ensures { let a = aim.old in
         IfOk result (IsFound a.problem.now a.goal a.gap_bits a.options.now) }

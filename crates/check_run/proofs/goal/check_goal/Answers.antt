@@ -3,7 +3,7 @@ use Rattle.desk.specs.declared.desk.Port.TheVariants.{CertIn}
 use Rattle.command_line.specs.Words.{check}
 use Rattle.poly_graph.specs.ProblemViews.{problem_of}
 use Rattle.cert_model.specs.Least.{goal_verdict}
-use Rattle.cert_model.specs.Limited.{has_room}
+use Rattle.goal_limit.specs.Limits.{has_room}
 use Rattle.cert_least.specs.Checked.{aim_at}
 use Rattle.check_run.specs.declared.check.Unconfirmed.{Unconfirmed}
 use Rattle.check_run.specs.Goals.{IsGoalVerdictOnPort, IsGoalReadFor}
@@ -24,7 +24,7 @@ returns-in-Ok-read_verdict-clause-cause g c words =
 
 pub returns-in-Err-Fault-clause-ends : goal.returns-in-Err-Fault-clause-ends
 returns-in-Err-Fault-clause-ends g c =
-    let T : Unconfirmed → Type 0 = λ x. IfSome (g.D.Desk.sight c.start.new.self).cert_in (λ (cert : List ℕ). IsGoalVerdictOnPort (aim_at c.args.problem.now c.args.goal c.args.bound) (goal_verdict (problem_of c.args.problem.now) c.args.goal (has_room c.args.problem.now) c.args.bound cert) (Err x)) in
+    let T : Unconfirmed → Type 0 = λ x. IfSome (g.D.Desk.sight c.start.new.self).cert_in (λ (cert : List ℕ). IsGoalVerdictOnPort (aim_at c.args.problem.now c.args.goal c.args.bound) (goal_verdict (problem_of c.args.problem.now) c.args.goal (has_room (problem_of c.args.problem.now)) c.args.bound cert) (Err x)) in
     let L : Unconfirmed → Type 0 = λ x. IsGoalReadFor (Err x) (g.D.Desk.sight c.start.new.self) (g.D.Desk.sight c.read_verdict.new.desk) in
     goal_checked c.args.problem.now c.args.goal c.args.bound c.args.name.now (Err c.in-Err-Fault.fault) _ _ _ _ _
     c.in-Ok.ensures.ok (subst L c.in-Err-Fault.field-0-is c.in-Err-Fault.ensures.leaves) (subst T c.in-Err-Fault.field-0-is c.in-Err-Fault.ensures.told) c.refuse.ensures.goal

@@ -19,4 +19,5 @@ loop-preserved c = record {
   bounds = bounds_of c.args.aim.now c.loop.aim c.loop.invariant.same c.descend_once.new.bounds c.descend_once.ensures.bounds;
   better = at_most_through (ext_of c.descend_once.new.bounds.upper) (ext_of c.loop.bounds.upper) (ext_of c.args.bounds.now.upper) c.descend_once.ensures.better c.loop.invariant.better;
   budget = c.descend_once.ensures.budget ∙ c.loop.invariant.budget;
+  lower = c.descend_once.ensures.lower ∙ c.loop.invariant.lower;
 }

@@ -12,4 +12,5 @@ invariant-loop l = record {
   bounds : AreBoundsOf l.fn.aim l.bounds;
   better : ext_at_most (ext_of l.bounds.upper) (ext_of l.fn.bounds.upper) ≡ true;
   budget : l.bounds.budget ≡ l.fn.bounds.budget;
+  lower : l.bounds.lower ≡ l.fn.bounds.lower;
 }
