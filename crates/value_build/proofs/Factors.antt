@@ -1,5 +1,5 @@
 -- Lists of factors, gathered: how many there are.
-use Rattle.std.proofs.Common.{◌≡◌, ℕ, suc, ◌+◌, ◌<◌, List, [], ◌∷◌, ◌++◌, length, Bool, true, false, cond, refl, ap, sym, ◌∙◌, arith}
+use Rattle.std.proofs.Common.{◌≡◌, ℕ, suc, ◌+◌, List, [], ◌∷◌, ◌++◌, length, Bool, true, false, cond, refl, ap, sym, ◌∙◌, arith}
 use Rattle.poly_graph.specs.Term.{Term}
 use Rattle.script_forms.specs.Terms.{Unfolded, stands_again, beside, gathered, gathered_with}
 use Rattle.term_build.specs.Pairs.{tree_at, trees_at}
@@ -30,14 +30,3 @@ length-all us = omega (arith, length-gathered [] us)
 -- as many as there were
 pub length_factors : (ts : List Term) (ks js : List ℕ) → trees_at ts js ≡ gathered (trees_at ts ks) → length js ≡ length ks
 length_factors ts ks js e = sym (length_trees ts js) ∙ ap (λ (us : List Unfolded). length us) e ∙ length-all (trees_at ts ks) ∙ length_trees ts ks
-
--- two factors stand in a row
-pub few_gathered : (us : List Unfolded) → length us < 3 → us ≡ gathered us
-few_gathered [] h = refl
-few_gathered (u ∷ []) h = refl
-few_gathered (u ∷ v ∷ []) h = go (stands_again u v)
-  where
-    go : (b : Bool) → u ∷ v ∷ [] ≡ cond b (u ∷ v ∷ []) (u ∷ v ∷ [])
-    go true = refl
-    go false = refl
-few_gathered (u ∷ v ∷ w ∷ us) h = absurd (omega (arith, h))

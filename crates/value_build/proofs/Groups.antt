@@ -1,12 +1,12 @@
 -- Factors in groups are the factors, gathered.
-use Rattle.std.proofs.Common.{◌≡◌, ℕ, zero, suc, ◌+◌, ◌<◌, ◌≤◌, ◌⊎◌, inl, inr, List, [], ◌∷◌, ◌++◌, length, Bool, true, false, cond, Option, Some, None, refl, ap, ap₂, sym, ◌∙◌, subst, arith, nat_eq, eqb→eq, append_assoc, length-append, slice_index_or, slice_set}
+use Rattle.std.proofs.Common.{◌≡◌, ℕ, zero, suc, ◌+◌, ◌<◌, ◌≤◌, ◌⊎◌, inl, inr, List, [], ◌∷◌, ◌++◌, length, Bool, true, false, cond, Option, Some, None, refl, ap, ap₂, sym, ◌∙◌, subst, arith, nat_eq, eqb→eq, append_assoc, append-nil, length-append, slice_index_or, slice_set}
 use Rattle.std.specs.Prelude.{replicate, option_map, Result, Ok, Err, IfOk, OnOk}
 use Rattle.std.specs.Bool.{passes}
 use Rattle.std.proofs.lemmas.List.{length-replicate}
 use Rattle.std.specs.HashMap.{HashMap, get}
 use Rattle.poly_graph.specs.Term.{Term, constant, variable, negate, add, multiply, square}
 use Rattle.dyadic.specs.Fraction.{Fraction}
-use Rattle.script_forms.specs.Terms.{Unfolded, same_term, repeats, beside, gathered_with}
+use Rattle.script_forms.specs.Terms.{Unfolded, same_term, repeats, beside, gathered, gathered_with}
 use Rattle.script_forms.proofs.Numbered.{term_self}
 use Rattle.term_build.specs.Built.{BuilderModel, IsMade, stand_of}
 use Rattle.term_build.specs.Pairs.{tree_at, trees_at}
@@ -14,7 +14,7 @@ use Rattle.term_build.specs.Steps.{as_constant, tree_of}
 use Rattle.term_build.proofs.Emits.{same_if}
 use Rattle.term_build.proofs.Powers.{repeats_same}
 use Rattle.value_build.specs.Arithmetic.{AreNodes}
-use Rattle.value_build.specs.Groups.{expanded, one_of, raised, group_of, EachGroup, AreGroups, AddsFactor, Gathers, IsGathering}
+use Rattle.value_build.specs.Groups.{all_in_rows, are_in_rows, is_among, expanded, one_of, raised, group_of, EachGroup, AreGroups, AddsFactor, Gathers, IsGathering}
 use Rattle.value_build.specs.Weights.{term_at}
 use Rattle.value_build.specs.declared.gather.Group.{Group}
 use Rattle.value_build.proofs.Factors.{trees_both, length_trees, length_beside}
@@ -270,3 +270,95 @@ gathering_done m nodes gs places h view (Err z) e = tt
 pub on_ok_then : {X E A B : Type 0} (r : Result X E) → (A → B) → OnOk r A → OnOk r B
 on_ok_then (Ok x) f h = f h
 on_ok_then (Err z) f h = h
+
+-- ---- factors that stand in rows are gathered
+
+abbrev Apart : List ℕ → ℕ → Type 0
+Apart [] k = Unit {0}
+Apart (j ∷ js) k = (nat_eq j k ≡ false) × Apart js k
+
+abbrev EachApart : List ℕ → List ℕ → Type 0
+EachApart js [] = Unit {0}
+EachApart js (k ∷ ks) = Apart js k × EachApart js ks
+
+apart-none : (m : BuilderModel) (js : List ℕ) (k : ℕ) → IsMade m → AreNodes m js → k < length m.nodes → Apart js k → NoneRepeats (stand_of m).trees js k
+apart-none m [] k h b l a = tt
+apart-none m (j ∷ js) k h b l a = (apart m j k h b.0 l a.0, apart-none m js k h b.1 l a.1)
+
+apart-row : (js : List ℕ) (n j k : ℕ) → Apart js k → nat_eq j k ≡ false → Apart (js ++ replicate n j) k
+apart-row [] zero j k a e = tt
+apart-row [] (suc n) j k a e = (e, apart-row [] n j k tt e)
+apart-row (i ∷ js) n j k a e = (a.0, apart-row js n j k a.1 e)
+
+not-among : (b c : Bool) → cond b true c ≡ false → (b ≡ false) × (c ≡ false)
+not-among true c e = cc
+not-among false c e = (refl, e)
+
+each-apart-row : (js : List ℕ) (n j : ℕ) (ks : List ℕ) → EachApart js ks → is_among j ks ≡ false → EachApart (js ++ replicate n j) ks
+each-apart-row js n j [] a e = tt
+each-apart-row js n j (k ∷ ks) a e = let x = not-among (nat_eq j k) (is_among j ks) e in (apart-row js n j k a.0 x.0, each-apart-row js n j ks a.1 x.1)
+
+either-way : (b : Bool) (us vs : List Unfolded) → vs ≡ us → cond b us vs ≡ us
+either-way true us vs e = refl
+either-way false us vs e = e
+
+same-row : (ts : List Term) (n k : ℕ) → beside (tree_at ts k) (trees_at ts (replicate n k)) ≡ trees_at ts (replicate (suc n) k)
+same-row ts zero k = refl
+same-row ts (suc n) k = either-way (repeats (term_at ts k) (term_at ts k)) (tree_at ts k ∷ tree_at ts k ∷ trees_at ts (replicate n k)) (tree_at ts k ∷ beside (tree_at ts k) (trees_at ts (replicate n k)))
+    (ap (λ us. tree_at ts k ∷ us) (same-row ts n k))
+
+row-shift : (n k : ℕ) (js : List ℕ) → replicate n k ++ (k ∷ js) ≡ replicate (suc n) k ++ js
+row-shift zero k js = refl
+row-shift (suc n) k js = ap (λ ks. k ∷ ks) (row-shift n k js)
+
+nodes-row : (m : BuilderModel) (js : List ℕ) (n k : ℕ) → AreNodes m js → k < length m.nodes → AreNodes m (js ++ replicate n k)
+nodes-row m [] zero k b l = tt
+nodes-row m [] (suc n) k b l = (l, nodes-row m [] n k tt l)
+nodes-row m (j ∷ js) n k b l = (b.0, nodes-row m js n k b.1 l)
+
+data Turn (k j : ℕ) (js : List ℕ) : Type 0 where
+  same_row : k ≡ j → are_in_rows k js ≡ true → Turn k j js
+  next_row : nat_eq k j ≡ false → is_among k js ≡ false → are_in_rows j js ≡ true → Turn k j js
+
+turn : (k j : ℕ) (js : List ℕ) → are_in_rows k (j ∷ js) ≡ true → Turn k j js
+turn k j js = go (nat_eq k j) refl (is_among k js) refl
+  where
+    go : (b : Bool) → nat_eq k j ≡ b → (c : Bool) → is_among k js ≡ c → cond b (are_in_rows k js) (cond c false (are_in_rows j js)) ≡ true → Turn k j js
+    go true d c f e = same_row (eqb→eq k j (passes _ d)) e
+    go false d false f e = next_row d f e
+    go false d true f e = cc
+
+in-rows : (m : BuilderModel) (js : List ℕ) (n k : ℕ) (ks : List ℕ) → IsMade m → AreNodes m js → k < length m.nodes → AreNodes m ks → EachApart js (k ∷ ks) → are_in_rows k ks ≡ true →
+    let ts = (stand_of m).trees in gathered_with (trees_at ts (js ++ replicate (suc n) k)) (trees_at ts ks) ≡ trees_at ts ((js ++ replicate (suc n) k) ++ ks)
+in-rows m js n k [] h b l g a e = ap (λ (is : List ℕ). trees_at (stand_of m).trees is) (sym (append-nil (js ++ replicate (suc n) k)))
+in-rows m js n k (j ∷ ks) h b l g a e = go (turn k j ks e)
+    (λ r. in-rows m js (suc n) k ks h b l g.1 (a.0, a.1.1) r)
+    (λ d f r. in-rows m (js ++ replicate (suc n) k) 0 j ks h (nodes-row m js (suc n) k b l) g.0 g.1 (each-apart-row js (suc n) k (j ∷ ks) a.1 (ap (λ x. cond x true (is_among k ks)) d ∙ f)) r)
+  where
+    ts : List Term
+    ts = (stand_of m).trees
+
+    go : Turn k j ks →
+        (are_in_rows k ks ≡ true → gathered_with (trees_at ts (js ++ replicate (suc (suc n)) k)) (trees_at ts ks) ≡ trees_at ts ((js ++ replicate (suc (suc n)) k) ++ ks)) →
+        (nat_eq k j ≡ false → is_among k ks ≡ false → are_in_rows j ks ≡ true →
+        gathered_with (trees_at ts ((js ++ replicate (suc n) k) ++ replicate 1 j)) (trees_at ts ks) ≡ trees_at ts (((js ++ replicate (suc n) k) ++ replicate 1 j) ++ ks)) →
+        gathered_with (trees_at ts (js ++ replicate (suc n) k)) (trees_at ts (j ∷ ks)) ≡ trees_at ts ((js ++ replicate (suc n) k) ++ (j ∷ ks))
+    go (same_row s r) f f' = subst (λ (i : ℕ). gathered_with (trees_at ts (js ++ replicate (suc n) k)) (trees_at ts (i ∷ ks)) ≡ trees_at ts ((js ++ replicate (suc n) k) ++ (i ∷ ks))) s
+        (ap (λ us. gathered_with us (trees_at ts ks))
+        (beside-past ts js (replicate (suc n) k) k (apart-none m js k h b l a.0) ∙ ap (λ us. trees_at ts js ++ us) (same-row ts (suc n) k) ∙ sym (trees_both ts js (replicate (suc (suc n)) k)))
+        ∙ f r
+        ∙ ap (λ (is : List ℕ). trees_at ts is)
+        (append_assoc js (replicate (suc (suc n)) k) ks ∙ ap (λ (is : List ℕ). js ++ is) (sym (row-shift (suc n) k ks)) ∙ sym (append_assoc js (replicate (suc n) k) (k ∷ ks))))
+    go (next_row d p r) f f' = let is = js ++ replicate (suc n) k in
+        ap (λ us. gathered_with us (trees_at ts ks))
+        (beside-last ts is j (apart-none m is j h (nodes-row m js (suc n) k b l) g.0 (apart-row js (suc n) k j a.1.0 d)) ∙ sym (trees_both ts is (j ∷ [])))
+        ∙ f' d p r
+        ∙ ap (λ (ns : List ℕ). trees_at ts ns) (append_assoc is (j ∷ []) ks)
+
+each-nothing : (ks : List ℕ) → EachApart [] ks
+each-nothing [] = tt
+each-nothing (k ∷ ks) = (tt, each-nothing ks)
+
+pub rows_gathered : (m : BuilderModel) (nodes : List ℕ) → IsMade m → AreNodes m nodes → all_in_rows nodes ≡ true → trees_at (stand_of m).trees nodes ≡ gathered (trees_at (stand_of m).trees nodes)
+rows_gathered m [] h b e = refl
+rows_gathered m (k ∷ ks) h b e = sym (in-rows m [] 0 k ks h tt b.0 b.1 (tt, each-nothing ks) e)

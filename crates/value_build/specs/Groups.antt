@@ -1,5 +1,5 @@
 -- Equal factors of a product, in groups.
-use Rattle.std.specs.Prelude.{◌≡◌, ℕ, zero, suc, ◌+◌, ◌<◌, List, [], ◌∷◌, ◌++◌, length, replicate, Option, Some, None, cond, nat_eq, option_map}
+use Rattle.std.specs.Prelude.{◌≡◌, ℕ, zero, suc, ◌+◌, ◌<◌, List, [], ◌∷◌, ◌++◌, length, replicate, Bool, true, false, Option, Some, None, cond, nat_eq, option_map}
 use Rattle.std.specs.HashMap.{HashMap, get}
 use Rattle.script_forms.specs.Terms.{beside, gathered, gathered_with}
 use Rattle.term_build.specs.Built.{BuilderModel, IsMade, stand_of}
@@ -27,6 +27,20 @@ raised (g ∷ gs) (suc p) = g ∷ raised gs p
 abbrev pub group_of : List Group → ℕ → Option ℕ
 group_of [] k = None
 group_of (g ∷ gs) k = cond (nat_eq g.factor k) (Some 0) (option_map suc (group_of gs k))
+
+-- whether a factor stands among these
+abbrev pub is_among : ℕ → List ℕ → Bool
+is_among k [] = false
+is_among k (j ∷ js) = cond (nat_eq k j) true (is_among k js)
+
+-- whether equal factors stand in rows
+abbrev pub are_in_rows : ℕ → List ℕ → Bool
+are_in_rows k [] = true
+are_in_rows k (j ∷ js) = cond (nat_eq k j) (are_in_rows k js) (cond (is_among k js) false (are_in_rows j js))
+
+abbrev pub all_in_rows : List ℕ → Bool
+all_in_rows [] = true
+all_in_rows (k ∷ ks) = are_in_rows k ks
 
 -- each has a factor, which stands
 abbrev pub EachGroup : BuilderModel → List Group → Type 0

@@ -4,7 +4,7 @@ ghost use Rattle.value_build.specs.Arithmetic.{AreNodes, is_difference, is_produ
 ghost use Rattle.value_build.specs.Calls.{CalculatesTrees, ComputesStep, FoldsTrees, MakesPowers, MultipliesPowers};
 ghost use Rattle.value_build.specs.declared.arithmetic.Step.TheVariants.{Multiply};
 
-use crate::gather::gather;
+use crate::gather::{gather, stand_in_rows, trees_are_shared};
 use script_fault::Place;
 use std::alloc::Global;
 use term_build::{Builder, Stop};
@@ -103,14 +103,15 @@ fn multiply_powers(
     fold(builder, at, Step::Multiply, *first, rest)
 }
 
-// The product of trees, of which there are some: those that are equal are a power. Two stand in a row.
+// The product of trees, of which there are some: those that are equal are a power.
 fn multiply(alloc: Global, builder: &mut Builder, at: Place, nodes: &[u32]) -> Result<u32, Stop>
     requires some { 0 < length nodes.now }
     requires nodes { AreNodes builder.old nodes.now }
     ensures does { CalculatesTrees Multiply builder.old builder.new at nodes.now result }
     ensures sorts { builder.new.sorts ≡ builder.old.sorts }
 {
-    if nodes.len() < 3 {
+    trees_are_shared(builder);
+    if stand_in_rows(nodes) {
         return multiply_powers(alloc, builder, at, nodes);
     }
     let factors = gather(alloc, builder, nodes)?;

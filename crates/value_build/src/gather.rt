@@ -1,12 +1,15 @@
 // Equal factors of a product, put in a row where the first of them stands.
-ghost use Rattle.std.specs.Prelude.{◌≡◌, ◌<◌, ◌+◌, ◌++◌, ◌∷◌, ◌^◌, [], length, replicate, IfOk, OnOk};
+ghost use Rattle.std.specs.Prelude.{◌≡◌, ◌<◌, ◌+◌, ◌++◌, ◌∷◌, ◌^◌, [], true, length, replicate, IfOk, OnOk};
 ghost use Rattle.term_build.specs.Built.{IsMade};
 ghost use Rattle.value_build.specs.Arithmetic.{AreNodes};
-ghost use Rattle.value_build.specs.Groups.{AddsFactor, AreGroups, Gathers, expanded, one_of, raised};
+ghost use Rattle.value_build.specs.Groups.{AddsFactor, AreGroups, Gathers, all_in_rows, are_in_rows, expanded, is_among, one_of, raised};
 
 use std::alloc::{AllocError, Global};
 use std::collections::HashMap;
 use term_build::Builder;
+
+// So many factors are looked at for whether they have to be gathered.
+const FEW: usize = 16;
 
 // A factor, and how often it stands.
 #[derive(Clone, Copy)]
@@ -15,8 +18,8 @@ struct Group {
     times: usize,
 }
 
-// Each tree that was made is one node.
-fn trees_are_shared(builder: &Builder)
+/// Each tree that was made is one node.
+pub(crate) fn trees_are_shared(builder: &Builder)
     ensures { IsMade builder.now }
 {
     let _ = builder.nodes();
@@ -86,6 +89,51 @@ fn expand(alloc: Global, groups: &[Group]) -> Result<Vec<u32>, AllocError>
         left = later;
     }
     Ok(factors)
+}
+
+// Whether the factor stands among these.
+fn is_among(factor: u32, nodes: &[u32]) -> bool
+    ensures { result ≡ is_among factor nodes.now }
+{
+    let mut left = nodes;
+    while let Some((next, later)) = left.split_first() {
+        if factor == *next {
+            return true;
+        }
+        left = later;
+    }
+    false
+}
+
+// Whether equal factors stand in rows, of a first one and others.
+fn are_in_rows(first: u32, others: &[u32]) -> bool
+    ensures { result ≡ are_in_rows first others.now }
+{
+    let mut row = first;
+    let mut left = others;
+    while let Some((next, later)) = left.split_first() {
+        if row != *next {
+            if is_among(row, later) {
+                return false;
+            }
+            row = *next;
+        }
+        left = later;
+    }
+    true
+}
+
+/// Whether there are few factors, and those that are equal stand in rows.
+pub(crate) fn stand_in_rows(nodes: &[u32]) -> bool
+    ensures { result ≡ true → all_in_rows nodes.now ≡ true }
+{
+    if nodes.len() > FEW {
+        return false;
+    }
+    match nodes.split_first() {
+        Some((first, others)) => are_in_rows(*first, others),
+        None => true,
+    }
 }
 
 /// The factors of a product, those that are equal in a row where the first of them stands. It takes the time of the

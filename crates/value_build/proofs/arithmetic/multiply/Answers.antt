@@ -1,16 +1,16 @@
 use Rattle.std.proofs.Common.{ℕ, List, length, ap, arith, subst}
 use Rattle.smt_sexp.specs.Views.{place_of}
 use Rattle.term_build.specs.Built.{stand_of}
-use Rattle.term_build.specs.Pairs.{trees_at}
 use Rattle.value_build.specs.Calls.{MultipliesPowers}
-use Rattle.value_build.proofs.Factors.{few_gathered, length_trees, length_factors}
+use Rattle.value_build.proofs.Factors.{length_factors}
+use Rattle.value_build.proofs.Groups.{rows_gathered}
 use Rattle.value_build.proofs.Products.{product_gathered}
 use Rattle.value_build.proofs.arithmetic.multiply.Goals as goal
 
-pub returns-then-nodes-lt3-clause-does : goal.returns-then-nodes-lt3-clause-does
-returns-then-nodes-lt3-clause-does c = let ts = (stand_of c.args.builder.now).trees in
+pub returns-then-stand_in_rows-clause-does : goal.returns-then-stand_in_rows-clause-does
+returns-then-stand_in_rows-clause-does c =
     product_gathered (place_of c.args.at) c.args.builder.now c.multiply_powers.new.builder c.args.nodes.now c.args.nodes.now c.multiply_powers.result
-    (few_gathered (trees_at ts c.args.nodes.now) (omega (arith, c.if-nodes-lt3.true, length_trees ts c.args.nodes.now))) c.multiply_powers.ensures.does
+    (rows_gathered c.args.builder.now c.args.nodes.now c.trees_are_shared.ensures c.requires.nodes (c.stand_in_rows.ensures c.if-stand_in_rows.true)) c.multiply_powers.ensures.does
 
 pub multiply_powers-requires-2-clause-some : goal.multiply_powers-requires-2-clause-some
 multiply_powers-requires-2-clause-some c =

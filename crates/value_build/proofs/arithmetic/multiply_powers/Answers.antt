@@ -1,4 +1,4 @@
-use Rattle.std.proofs.Common.{◌≡◌, ℕ, List, ◌∷◌, ◌∙◌, sym, subst}
+use Rattle.std.proofs.Common.{◌≡◌, ℕ, List, ◌∙◌, sym, subst}
 use Rattle.std.specs.Prelude.{Result}
 use Rattle.smt_sexp.specs.Views.{place_of}
 use Rattle.script_forms.specs.Terms.{powers}
