@@ -46,7 +46,7 @@ RUN = Stage(0, WIDTH, "Runs: words, ports, answers, exit statuses", """
 COMMANDS = [
     Stage(0, 160, "minimize", "least_search least_text"),
     Stage(168, 160, "resume", "cert_base cert_resume cert_resumed"),
-    Stage(336, 160, "join", "cert_join cert_joined"),
+    Stage(336, 160, "join", "cert_join cert_joined cert_parting"),
     Stage(504, 160, "plan", "width_plan plan_law"),
     Stage(672, 160, "upgrade", "cert_upgrade"),
     Stage(840, 160, "demo", "gen_script demo_law"),

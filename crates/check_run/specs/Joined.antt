@@ -9,6 +9,7 @@ use Rattle.cert_model.specs.Due.{CertFault, Value}
 use Rattle.cert_model.specs.Accepted.{IsAccepted, refused, verdict}
 use Rattle.cert_model.specs.AnswerText.{check_text, text_line, verdict_text}
 use Rattle.cert_joined.specs.Covers.{JoinsTexts}
+use Rattle.cert_parting.specs.Parting.{AreAgreed, IsFirstApart}
 use Rattle.check_run.specs.declared.status.Status.TheVariants.{Answered, CertRefused}
 use Rattle.check_run.specs.Course.{Course, Start, says}
 
@@ -65,10 +66,10 @@ apart_text k n = part_line k ++ not_joined_line n
 pub data IsNotJoined (p : Problem) (b : Option ℕ) (parts : List (List ℕ)) (text : List ℕ) : Type 0 where
   -- one is refused
   one_refused : (k : ℕ) (f : CertFault) (n : ℕ) → IsFirstRefused p b parts k f n → text ≡ refused_part_text k f n → IsNotJoined p b parts text
-  -- each is accepted, and a line of one does not go together with the others
-  apart : (k n : ℕ) → AreAllAccepted p b parts → text ≡ apart_text k n → IsNotJoined p b parts text
-  -- each is accepted, and a line of what was joined is refused
-  joined_refused : (n : ℕ) → AreAllAccepted p b parts → text ≡ not_joined_line n → IsNotJoined p b parts text
+  -- each is accepted, and this is the first whose margin or delta is not that of the first one, and the line that says so
+  apart : (k n : ℕ) → AreAllAccepted p b parts → IsFirstApart parts k n → text ≡ apart_text k n → IsNotJoined p b parts text
+  -- each is accepted, all have one margin and delta, and a line of what was joined is refused
+  joined_refused : (n : ℕ) → AreAllAccepted p b parts → AreAgreed parts → text ≡ not_joined_line n → IsNotJoined p b parts text
 
 -- a certificate that took the name of its draft, and then an answer
 abbrev pub keeps : List ℕ → List ℕ → Course

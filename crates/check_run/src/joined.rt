@@ -24,7 +24,7 @@ pub fn refused_part(alloc: Global, number: usize, fault: CertFault) -> Result<Ve
     Ok(text)
 }
 
-/// A line of the certificate of this number, from 1 on, does not go together with the others.
+/// The certificate of this number, from 1 on, has another margin or delta than the first one, in this line.
 pub fn not_joined_at(alloc: Global, number: usize, line: u64) -> Result<Vec<u8>, AllocError>
     ensures { IfOk result (λ text. text.items ≡ apart_text number line) }
 {

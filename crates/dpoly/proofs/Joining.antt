@@ -20,6 +20,9 @@ use Rattle.cert_check.specs.Faults.{stop_of}
 use Rattle.cert_check.specs.Feeding.{IsVerdictOfTaken, IsVerdictOrMemory}
 use Rattle.cert_join.specs.Drafting.{IsDraftFailed, IsReadFailed, IsSomeDrafted, IsWhole}
 use Rattle.cert_joined.specs.Covers.{JoinsTexts}
+use Rattle.cert_parting.specs.Calls.{IsPartingOn}
+use Rattle.cert_parting.specs.Parting.{AreAgreed, IsFirstApart}
+use Rattle.cert_parting.specs.declared.parting.Place.{Place}
 use Rattle.script_fault.specs.declared.fault.ScriptFault.{ScriptFault}
 use Rattle.script_reading.specs.Faults.{script_fault}
 use Rattle.script_reading.specs.Reader.{HasProblem}
@@ -43,7 +46,7 @@ use Rattle.check_run.proofs.RunParts.{join_draft, run_started}
 use Rattle.check_run.proofs.Running.{told as told_script}
 use Rattle.dpoly.specs.declared.join.Joint.{Joint}
 use Rattle.dpoly.specs.declared.join.Joint.TheVariants.{Whole, Dropped, Apart, Refused}
-use Rattle.dpoly.specs.Join.{EndsAccepted, EndsOnJoin, EndsOnJoint, EndsRefused, HaltsJoining, IsDraftedJoint, IsFirstFault, IsFirstFaultOn, IsJointOf, IsJointText, IsRefusalWith, IsToldJoint, IsUnread}
+use Rattle.dpoly.specs.Join.{EndsAccepted, EndsApart, EndsOnJoin, EndsOnJoint, EndsRefused, HaltsJoining, IsDraftedJoint, IsFirstFault, IsFirstFaultOn, IsJointOf, IsJointText, IsRefusalWith, IsToldJoint, IsUnread}
 use Rattle.dpoly.proofs.Halting.{by_text, long_halt}
 
 -- ---- nothing written
@@ -86,13 +89,13 @@ EndsJoint p b count old new x = MatchResult x (λ joint. IsDraftedJoint p b coun
 told-of : (p : Problem) (b : Option ℕ) (text : List ℕ) (r : Result told.Verdict CertFault) (joint : Joint) → IsVerdictOrMemory (verdict p b text) r → IsToldJoint r (Ok joint) → IsJointOf p b text joint
 told-of p b text r (Whole w) h e = subst (λ (x : Result told.Verdict CertFault). IsVerdictOrMemory (verdict p b text) x) e h
 told-of p b text r (Dropped w) h e = subst (λ (x : Result told.Verdict CertFault). IsVerdictOrMemory (verdict p b text) x) e h
-told-of p b text r (Apart place) h e = tt
+told-of p b text r Apart h e = tt
 told-of p b text r (Refused line) h e = tt
 
 joins-told : (parts : List (List ℕ)) (text : List ℕ) (joint : Joint) → JoinsTexts parts text → IsJointText parts text joint
 joins-told parts text (Whole w) h = h
 joins-told parts text (Dropped w) h = h
-joins-told parts text (Apart place) h = tt
+joins-told parts text Apart h = tt
 joins-told parts text (Refused line) h = tt
 
 pub joint_told : (p : Parts) (b : Option ℕ) (count : ℕ) (old new : Sight) (f : Feed) (r : Result told.Verdict CertFault) (x : Result Joint Status) → IsWhole old p b count [] new f → IsVerdictOfTaken f r → IsToldJoint r x → EndsJoint (problem_of p) b count old new x
@@ -107,14 +110,14 @@ joint_told p b count old new f r (Err status) way tells is = subst (λ (s : Stat
 not-said : (fault : CertFault) (joint : Joint) (p : Problem) (b : Option ℕ) (text : List ℕ) → IsToldJoint (Err fault) (Ok joint) → IsJointOf p b text joint
 not-said fault (Whole w) p b text e = cc
 not-said fault (Dropped w) p b text e = cc
-not-said fault (Apart place) p b text e = tt
+not-said fault Apart p b text e = tt
 not-said fault (Refused line) p b text e = tt
 
 -- where the checker refused it on the way
 not-joined : (fault : CertFault) (joint : Joint) (parts : List (List ℕ)) (text : List ℕ) → IsToldJoint (Err fault) (Ok joint) → IsJointText parts text joint
 not-joined fault (Whole w) parts text e = cc
 not-joined fault (Dropped w) parts text e = cc
-not-joined fault (Apart place) parts text e = tt
+not-joined fault Apart parts text e = tt
 not-joined fault (Refused line) parts text e = tt
 
 pub joint_refused : (p : Problem) (b : Option ℕ) (count : ℕ) (old new : Sight) (fault : CertFault) (x : Result Joint Status) → IsSomeDrafted old new → IsToldJoint (Err fault) x → EndsJoint p b count old new x
@@ -247,13 +250,26 @@ pub refused_joins : (p : Problem) (b : Option ℕ) (parts : List (List ℕ)) (r 
     StartedEnds (CanJoin p b parts) old new status
 refused_joins p b parts r old new status reason ends = widen (IsRefusalWith r) (CanJoin p b parts) old new status (λ course h. refuses-with p b parts r course reason h) ends
 
-pub apart_reason : (p : Problem) (b : Option ℕ) (parts : List (List ℕ)) (r : Result (Vec ℕ Global) AllocError) (k n : ℕ) → AreAllAccepted p b parts → IfOk r (λ text. text.items ≡ apart_text k n) → IfOk r (λ text. IsNotJoined p b parts text.items)
-apart_reason p b parts (Ok text) k n all e = together.apart k n all e
-apart_reason p b parts (Err e) k n all h = tt
+pub apart_reason : (p : Problem) (b : Option ℕ) (parts : List (List ℕ)) (r : Result (Vec ℕ Global) AllocError) (k n : ℕ) → AreAllAccepted p b parts → IsFirstApart parts k n → IfOk r (λ text. text.items ≡ apart_text k n) → IfOk r (λ text. IsNotJoined p b parts text.items)
+apart_reason p b parts (Ok text) k n all first e = together.apart k n all first e
+apart_reason p b parts (Err e) k n all first h = tt
 
-pub joined_reason : (p : Problem) (b : Option ℕ) (parts : List (List ℕ)) (r : Result (Vec ℕ Global) AllocError) (n : ℕ) → AreAllAccepted p b parts → IfOk r (λ text. text.items ≡ not_joined_line n) → IfOk r (λ text. IsNotJoined p b parts text.items)
-joined_reason p b parts (Ok text) n all e = together.joined_refused n all e
-joined_reason p b parts (Err e) n all h = tt
+pub joined_reason : (p : Problem) (b : Option ℕ) (parts : List (List ℕ)) (r : Result (Vec ℕ Global) AllocError) (n : ℕ) → AreAllAccepted p b parts → AreAgreed parts → IfOk r (λ text. text.items ≡ not_joined_line n) → IfOk r (λ text. IsNotJoined p b parts text.items)
+joined_reason p b parts (Ok text) n all agreed e = together.joined_refused n all agreed e
+joined_reason p b parts (Err e) n all agreed h = tt
+
+-- the certificates of a desk, behind what was drafted
+module _ (count : ℕ) (mid read new : Sight) (same : read ≡ mid) (status : Status) (r : Result (Vec ℕ Global) AllocError) (ends : EndsRefused r read new status) where
+  pub parted_ends : (place : Place) → IsPartingOn count mid (Some place) → IfOk r (λ text. text.items ≡ apart_text place.number place.line) → EndsApart count mid new status
+  parted_ends place first tells = λ p b parts old text drafts e n all.
+      refused_joins p b parts r old new status (apart_reason p b parts r place.number place.line all (first parts (ap (λ (d : Sight). d.parts) drafts ∙ e) n) tells) (ends old text (same ∙ drafts))
+
+  pub agreed_ends : (line : ℕ) → IsPartingOn count mid None → IfOk r (λ text. text.items ≡ not_joined_line line) → EndsApart count mid new status
+  agreed_ends line agreed tells = λ p b parts old text drafts e n all.
+      refused_joins p b parts r old new status (joined_reason p b parts r line all (agreed parts (ap (λ (d : Sight). d.parts) drafts ∙ e) n) tells) (ends old text (same ∙ drafts))
+
+pub unread_apart : (count : ℕ) (e : Unread) (mid new : Sight) → IsUnread e mid new → EndsApart count mid new (status_of e)
+unread_apart count e mid new h = λ p b parts old text drafts f n all. unread_ends (CanJoin p b parts) e old mid new text drafts h
 
 -- one is refused
 part-reason : (p : Problem) (b : Option ℕ) (parts : List (List ℕ)) (k : ℕ) (f : CertFault) (text : List ℕ) → IsFirstFault p b parts (Some (k, f)) → TellsPart k f text → IsNotJoined p b parts text
@@ -275,8 +291,8 @@ module _ (p : Problem) (b : Option ℕ) (count : ℕ) (joint : Joint) (mid : Sig
   alone_refused k f r read new status first same tells ends = λ old text parts drafts of e n so.
       refused_joins p b parts r old new status (first_reason p b parts k f r (first parts (ap (λ (d : Sight). d.parts) drafts ∙ e) n) tells) (ends old text (same ∙ drafts))
 
-  pub alone_accepted : (read new : Sight) (status : Status) → IsFirstFaultOn p b count mid None → read ≡ mid → EndsAccepted joint read new status → EndsOnJoint p b count joint mid new status
-  alone_accepted read new status first same ends = λ old text parts drafts of e n so. ends p b parts old text (same ∙ drafts) of so (first parts (ap (λ (d : Sight). d.parts) drafts ∙ e) n)
+  pub alone_accepted : (read new : Sight) (status : Status) → IsFirstFaultOn p b count mid None → read ≡ mid → EndsAccepted count joint read new status → EndsOnJoint p b count joint mid new status
+  alone_accepted read new status first same ends = λ old text parts drafts of e n so. ends p b parts old text (same ∙ drafts) of so e n (first parts (ap (λ (d : Sight). d.parts) drafts ∙ e) n)
 
   pub alone_unread : (e : Unread) (new : Sight) → IsUnread e mid new → EndsOnJoint p b count joint mid new (status_of e)
   alone_unread e new h = λ old text parts drafts of f n so. unread_ends (CanJoin p b parts) e old mid new text drafts h

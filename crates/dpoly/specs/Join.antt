@@ -62,14 +62,14 @@ IsFirstFaultOn p b count d x = (parts : List (List ℕ)) → d.parts ≡ Some pa
 abbrev pub IsJointOf : Problem → Option ℕ → List ℕ → Joint → Type 0
 IsJointOf p b text (Whole w) = IsVerdict (verdict p b text) (Ok w)
 IsJointOf p b text (Dropped w) = IsVerdict (verdict p b text) (Ok w)
-IsJointOf p b text (Apart place) = Unit {0}
+IsJointOf p b text Apart = Unit {0}
 IsJointOf p b text (Refused line) = Unit {0}
 
 -- with a verdict, the text joins the covers of these certificates
 abbrev pub IsJointText : List (List ℕ) → List ℕ → Joint → Type 0
 IsJointText parts text (Whole w) = JoinsTexts parts text
 IsJointText parts text (Dropped w) = JoinsTexts parts text
-IsJointText parts text (Apart place) = Unit {0}
+IsJointText parts text Apart = Unit {0}
 IsJointText parts text (Refused line) = Unit {0}
 
 -- a text was drafted, and this came of it, where the desk shows so many certificates
@@ -102,10 +102,16 @@ IsRefusalWith (Err e) course = ⊥
 abbrev pub EndsRefused : Result (Vec ℕ Global) AllocError → Sight → Sight → Status → Type 0
 EndsRefused r mid new status = (old : Sight) (text : List ℕ) → IsDrafted old text mid → StartedEnds (IsRefusalWith r) old new status
 
--- it ends where each certificate is accepted
-abbrev pub EndsAccepted : Joint → Sight → Sight → Status → Type 0
-EndsAccepted joint mid new status =
-    (p : Problem) (b : Option ℕ) (parts : List (List ℕ)) (old : Sight) (text : List ℕ) → IsDrafted old text mid → IsJointOf p b text joint → IsJointText parts text joint → AreAllAccepted p b parts → StartedEnds (CanJoin p b parts) old new status
+-- it ends where the desk shows so many certificates, each is accepted, and there is none that joins them
+abbrev pub EndsApart : ℕ → Sight → Sight → Status → Type 0
+EndsApart count mid new status =
+    (p : Problem) (b : Option ℕ) (parts : List (List ℕ)) (old : Sight) (text : List ℕ) → IsDrafted old text mid → old.parts ≡ Some parts → length parts ≡ count → AreAllAccepted p b parts → StartedEnds (CanJoin p b parts) old new status
+
+-- and where this came of them
+abbrev pub EndsAccepted : ℕ → Joint → Sight → Sight → Status → Type 0
+EndsAccepted count joint mid new status =
+    (p : Problem) (b : Option ℕ) (parts : List (List ℕ)) (old : Sight) (text : List ℕ) → IsDrafted old text mid → IsJointOf p b text joint → IsJointText parts text joint → old.parts ≡ Some parts → length parts ≡ count →
+    AreAllAccepted p b parts → StartedEnds (CanJoin p b parts) old new status
 
 -- it ends behind its draft, where the desk shows so many certificates
 abbrev pub EndsOnJoint : Problem → Option ℕ → ℕ → Joint → Sight → Sight → Status → Type 0

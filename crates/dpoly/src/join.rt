@@ -7,19 +7,23 @@ ghost use Rattle.check_run.specs.Both.{IsScriptHeld};
 ghost use Rattle.check_run.specs.Course.{StartedEnds};
 ghost use Rattle.check_run.specs.Run.{JoinHasCause};
 ghost use Rattle.check_run.specs.Several.{CanJoinOn};
-ghost use Rattle.dpoly.specs.Join.{EndsAccepted, EndsOnJoin, EndsOnJoint, EndsRefused, HaltsJoining, IsDraftedJoint, IsToldJoint};
+ghost use Rattle.dpoly.specs.Join.{EndsAccepted, EndsApart, EndsOnJoin, EndsOnJoint, EndsRefused, HaltsJoining, IsDraftedJoint, IsToldJoint};
 
 use crate::alone::first_fault;
 use cert_check::{CertFault, Feed, Verdict};
-use cert_join::{Place, Stop, join};
+use cert_join::{Stop, join};
+use cert_parting::first_parting;
 use check_run::{
     Status, end_halted, keep_joined, not_joined, not_joined_at, refusal, refused_part, say,
     too_long,
 };
-use desk::Desk;
+use desk::{Denied, Desk};
 use poly_graph::Problem;
 use problem_build::read_problem;
 use std::alloc::{AllocError, Global};
+
+// The line of a cover that says how many lemmas it has.
+const LEMMAS_LINE: u64 = 5;
 
 /// What came of certificates that were joined.
 #[derive(Clone, Copy)]
@@ -29,7 +33,7 @@ pub enum Joint {
     /// One with this verdict.
     Dropped(Verdict),
     /// They do not go together.
-    Apart(Place),
+    Apart,
     /// One that is refused in this line.
     Refused(u64),
 }
@@ -95,7 +99,7 @@ fn joint_by<D: Desk>(
         Err(Stop::Failed) => Err(Status::InFailed),
         Err(Stop::Denied) => Err(Status::OutFailed),
         Err(Stop::Memory) => Err(Status::NoMemory),
-        Err(Stop::Apart(place)) => Ok(Joint::Apart(place)),
+        Err(Stop::Apart(_)) => Ok(Joint::Apart),
         Err(Stop::Refused(fault)) => refused(fault),
     }
 }
@@ -132,19 +136,31 @@ fn refuse_with<D: Desk>(desk: &mut D, text: Result<Vec<u8>, AllocError>) -> Stat
     }
 }
 
-// Answers what came of certificates that are all accepted.
-fn end_accepted<D: Desk>(alloc: Global, desk: &mut D, joint: Joint) -> Status
-    ensures ends { EndsAccepted joint (D.sight desk.old) (D.sight desk.new) result }
+// Refuses certificates that are all accepted: names the first whose margin or delta is not that of the first one, or,
+// where all agree, this line of what was joined.
+fn end_apart<D: Desk>(alloc: Global, desk: &mut D, count: usize, line: u64) -> Status
+    ensures ends { EndsApart count (D.sight desk.old) (D.sight desk.new) result }
+    ensures cause { JoinHasCause (D.sight desk.old) (D.sight desk.new) result }
+    ensures script { (D.sight desk.new).script ≡ (D.sight desk.old).script }
+{
+    match first_parting(alloc, desk, count) {
+        Ok(Some(place)) => refuse_with(desk, not_joined_at(alloc, place.number, place.line)),
+        Ok(None) => refuse_with(desk, not_joined(alloc, line)),
+        Err(Denied::Failed) => Status::InFailed,
+        Err(Denied::Memory) => Status::NoMemory,
+    }
+}
+
+// Answers what came of so many certificates that are all accepted.
+fn end_accepted<D: Desk>(alloc: Global, desk: &mut D, count: usize, joint: Joint) -> Status
+    ensures ends { EndsAccepted count joint (D.sight desk.old) (D.sight desk.new) result }
     ensures cause { JoinHasCause (D.sight desk.old) (D.sight desk.new) result }
     ensures script { (D.sight desk.new).script ≡ (D.sight desk.old).script }
 {
     match joint {
         Joint::Whole(verdict) | Joint::Dropped(verdict) => keep_joined(alloc, desk, verdict),
-        Joint::Apart(place) => {
-            let text = not_joined_at(alloc, place.part.saturating_add(1), place.line);
-            refuse_with(desk, text)
-        }
-        Joint::Refused(line) => refuse_with(desk, not_joined(alloc, line)),
+        Joint::Apart => end_apart(alloc, desk, count, LEMMAS_LINE),
+        Joint::Refused(line) => end_apart(alloc, desk, count, line),
     }
 }
 
@@ -164,7 +180,7 @@ fn end_alone<D: Desk>(
 {
     match first_fault(alloc, desk, problem, bound, count) {
         Ok(Some((number, fault))) => refuse_with(desk, refused_part(alloc, number, fault)),
-        Ok(None) => end_accepted(alloc, desk, joint),
+        Ok(None) => end_accepted(alloc, desk, count, joint),
         Err(unread) => unread.status(),
     }
 }
