@@ -1,4 +1,4 @@
-use Rattle.std.proofs.Common.{Option, subst, ◌∙◌}
+use Rattle.std.proofs.Common.{Option, subst}
 use Rattle.cert_parting.specs.Calls as parting
 use Rattle.cert_parting.specs.Calls.{IsPartingOn}
 use Rattle.cert_parting.specs.declared.parting.Place.{Place}
