@@ -1,3 +1,4 @@
 pub mod Ended
 pub mod Gathering
 pub mod Keeps
+pub mod Taken

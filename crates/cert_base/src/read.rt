@@ -1,5 +1,5 @@
 // A certificate read back.
-ghost use Rattle.std.specs.Prelude.{◌≡◌, ◌≤◌, ℕ, length, map, true, IfErr, IfOk, None, Ok, OnOk, Option, Some};
+ghost use Rattle.std.specs.Prelude.{◌≡◌, ◌<◌, ◌≤◌, ℕ, length, map, slice_get, true, IfErr, IfOk, None, Ok, OnOk, Option, Some};
 ghost use Rattle.poly_graph.specs.ProblemViews.{problem_of};
 ghost use Rattle.ival.specs.SpaceViews.{space_of};
 ghost use Rattle.cert_read.specs.CertLine.{parsed};
@@ -7,16 +7,14 @@ ghost use Rattle.cert_read.specs.Lines.{lines_of};
 ghost use Rattle.cert_model.specs.Accepted.{most_bytes, verdict};
 ghost use Rattle.cert_check.specs.Checked.{fresh_checker};
 ghost use Rattle.cert_check.specs.Courses.{cover_in, point_in, Finishes, IsUnderWay};
-ghost use Rattle.cert_check.specs.Dues.{states_of};
 ghost use Rattle.cert_check.specs.Feeding.{IsRefusalOrMemory};
-ghost use Rattle.cert_check.specs.States.{lemma_of};
 ghost use Rattle.cert_base.specs.Base.{loosenings_of, IsReadBack};
 ghost use Rattle.cert_base.specs.Gathered.{nothing_yet};
 ghost use Rattle.cert_base.specs.Views.{base_gathered, gathered_of, IsGathered};
 
 use crate::base::{Base, Read};
 use crate::gathered::Gathered;
-use cert_check::{CertFault, Checker, Lemma, Verdict};
+use cert_check::{CertFault, Checker, Lemmas, Verdict};
 use cert_read::LineReader;
 use cover_data::{State, StoredState};
 use ival::Space;
@@ -71,26 +69,28 @@ fn point_of(alloc: Global, checker: &Checker<'_>) -> Result<Space, AllocError>
     }
 }
 
-// The state of a lemma, to be kept, where one that is like it may be kept already.
+// The state of the lemma of this number, to be kept, where one that is like it may be kept already.
 fn stored(
     alloc: Global,
-    lemma: &Lemma,
+    lemmas: &Lemmas,
+    i: usize,
     like: Option<&StoredState>,
 ) -> Result<StoredState, AllocError>
-    ensures { IfOk result (λ s. s ≡ lemma_of lemma.now) }
+    requires { i < length lemmas.now }
+    ensures { IfOk result (λ s. slice_get lemmas.now i ≡ Some s) }
 {
-    let space = lemma.space.try_clone(alloc)?;
-    let marks = lemma.marks(alloc)?;
+    let (space, marks) = lemmas.state(alloc, i)?;
     StoredState::new(alloc, &State::new(space, marks), like)
 }
 
 // The states of lemmas.
-fn states_of(alloc: Global, lemmas: &[Lemma]) -> Result<Vec<StoredState>, AllocError>
-    ensures { IfOk result (λ v. v.items ≡ states_of lemmas.now) }
+#[tactic(auto, using(crate::proofs::Taken::all_taken))]
+fn states_of(alloc: Global, lemmas: &Lemmas) -> Result<Vec<StoredState>, AllocError>
+    ensures { IfOk result (λ v. v.items ≡ lemmas.now) }
 {
     let mut states: Vec<StoredState> = Vec::with_capacity(alloc, lemmas.len())?;
-    for lemma in lemmas {
-        let state = stored(alloc, lemma, states.last())?;
+    for i in 0..lemmas.len() {
+        let state = stored(alloc, lemmas, i, states.last())?;
         states.push(state)?;
     }
     Ok(states)

@@ -10,7 +10,6 @@ use Rattle.cover_model.specs.State.{State, covers}
 use Rattle.cover_model.specs.Rules.{lemma_covers}
 use Rattle.cert_model.specs.Due.{all_below, apart}
 use Rattle.cert_check.specs.declared.standing.Lemma.{Lemma}
-use Rattle.cert_check.specs.States.{lemma_of}
 
 -- ---- place by place
 
@@ -117,12 +116,12 @@ module _ (n : ℕ) (ys ns : List ℕ) (ms : List Mark) (l : n ≡ length ms) (by
 
 -- ---- a lemma by its number
 
-pub covers_here : (Ls : List Lemma) (i : ℕ) (d : Lemma) (S : State) → i < length Ls → lemma_covers (map lemma_of Ls) i S ≡ covers (lemma_of (get_or Ls i d)) S
-covers_here [] i d S h = absurd (omega (arith, h))
-covers_here (L ∷ Ls) zero d S h = refl
-covers_here (L ∷ Ls) (suc i) d S h = covers_here Ls i d S (omega (arith, h))
+pub covers_here : (f : Lemma → State) (Ls : List Lemma) (i : ℕ) (d : Lemma) (S : State) → i < length Ls → lemma_covers (map f Ls) i S ≡ covers (f (get_or Ls i d)) S
+covers_here f [] i d S h = absurd (omega (arith, h))
+covers_here f (L ∷ Ls) zero d S h = refl
+covers_here f (L ∷ Ls) (suc i) d S h = covers_here f Ls i d S (omega (arith, h))
 
-pub covers_none : (Ls : List Lemma) (i : ℕ) (S : State) → length Ls ≤ i → lemma_covers (map lemma_of Ls) i S ≡ false
+pub covers_none : (Ls : List State) (i : ℕ) (S : State) → length Ls ≤ i → lemma_covers Ls i S ≡ false
 covers_none [] zero S h = refl
 covers_none [] (suc i) S h = refl
 covers_none (L ∷ Ls) zero S h = absurd (omega (arith, h))

@@ -24,6 +24,7 @@ pub mod RuleFits
 pub mod Sessions
 pub mod Stands
 pub mod Stays
+pub mod Table
 pub mod Taking
 pub mod Tiny
 pub mod VerdictAnswers

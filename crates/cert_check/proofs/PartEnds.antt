@@ -1,5 +1,5 @@
 -- The end of a part, and the part behind it.
-use Rattle.std.proofs.Common.{◌≡◌, ℕ, suc, ◌+◌, ◌≤◌, List, [], ◌∷◌, ◌++◌, length, map, drop, get_or, cond, Bool, true, false, not, ◌&&◌, Option, Some, None, Vec, refl, ap, ap₂, sym, ◌∙◌, subst, inl, inr, arith}
+use Rattle.std.proofs.Common.{◌≡◌, ℕ, suc, ◌+◌, ◌≤◌, List, [], ◌∷◌, ◌++◌, length, map, drop, cond, Bool, true, false, not, ◌&&◌, Option, Some, None, refl, ap, ap₂, sym, ◌∙◌, subst, All, arith}
 use Rattle.std.proofs.lemmas.List.{map-append, drop_all}
 use Rattle.std.specs.Borrow.{Bor}
 use Rattle.interval_model.specs.Space.{Space}
@@ -12,7 +12,6 @@ use Rattle.cover_model.specs.State.{State}
 use Rattle.cert_model.specs.Due.{Value, left_open, Standing, Due, tree_due, end_due, nothing_due, axis_next, coordinate_next, is_some_axis, is_crossed_box}
 use Rattle.cert_model.specs.Session as parts
 use Rattle.cert_model.specs.Session.{SessionDue, part_due, inside_due, all_done, next_part, inside, kept_by}
-use Rattle.cert_check.specs.declared.standing.Lemma as code
 use Rattle.cert_check.specs.declared.loosenings.Loosenings.{Loosenings}
 use Rattle.cert_check.specs.declared.part.Outcome.{Outcome}
 use Rattle.cert_check.specs.declared.part.Outcome.TheVariants.{Point, Left}
@@ -22,15 +21,13 @@ use Rattle.cert_check.specs.declared.due.Due.TheVariants as due
 use Rattle.cert_check.specs.declared.due.Value as value
 use Rattle.cert_check.specs.declared.due.Value.TheVariants as kept
 use Rattle.cert_check.specs.declared.tools.Tools.{Tools}
-use Rattle.std.specs.declared.alloc.Global.{Global}
 use Rattle.ival.specs.SpaceViews.{space_of}
 use Rattle.cert_check.specs.Behind.{pending_of}
-use Rattle.cert_check.specs.States.{Fits, state_of, lemma_of, loosenings_of}
-use Rattle.cert_check.specs.Dues.{AllFit, blanks, states_of, due_of, lean, lean_left, lemmas_of, value_of}
+use Rattle.cert_check.specs.States.{HasMore, state_of, loosenings_of}
+use Rattle.cert_check.specs.Dues.{AllFit, blanks, due_of, lean, lean_left, lemmas_of, value_of}
 use Rattle.cert_check.specs.Work.{Work, together, brief, lean_session}
-use Rattle.cert_check.specs.Works.{CanBeKept, HasMore, outcome_value, values_of, checks_from, part_of, spent_part_of, IsPlace}
+use Rattle.cert_check.specs.Works.{outcome_value, values_of, checks_from, part_of, spent_part_of, IsPlace}
 use Rattle.cert_check.proofs.Leans.{length_blanks, behind_lean}
-use Rattle.cert_check.proofs.Marking.{length_marks}
 use Rattle.cert_check.proofs.Sessions.{more_axes, more_atoms, problem_at, extends_at, from_check, goes_on_next}
 use Rattle.cert_check.proofs.Waits.{lean_axis, lean_coordinate}
 
@@ -52,22 +49,22 @@ values_more os o v e =
 
 -- ---- the part behind
 
-module _ (s : Loosenings) (p : Parts) (Ls : List code.Lemma) (os : List Outcome) where
+module _ (s : Loosenings) (p : Parts) (Ls : List State) (os : List Outcome) where
   abbrev pub due_behind : List (Parts × Bool) → Work
-  due_behind cs = together (lean_session (next_part (loosenings_of s) (problem_of p) (states_of Ls) (values_of os) (problems_of cs)))
+  due_behind cs = together (lean_session (next_part (loosenings_of s) (problem_of p) Ls (values_of os) (problems_of cs)))
 
   pub none_behind : (cs : List (Parts × Bool)) → cs ≡ [] → due_behind cs ≡ together (all_done (loosenings_of s) (values_of os))
   none_behind cs e = ap due_behind e ∙ ap (λ (vs : List Value). together (all_done (loosenings_of s) vs)) (values_brief os)
 
-  pub one_behind : (cs later : List (Parts × Bool)) (q : Parts) (e : Bool) (keeps : List State) → cs ≡ (q, e) ∷ later → kept_by e (problem_of p) (states_of Ls) (problem_of q) ≡ keeps →
+  pub one_behind : (cs later : List (Parts × Bool)) (q : Parts) (e : Bool) (keeps : List State) → cs ≡ (q, e) ∷ later → kept_by e (problem_of p) Ls (problem_of q) ≡ keeps →
       due_behind cs ≡ together (part_due (loosenings_of s) (record { problem = problem_of q; may_keep = keeps; later = problems_of later; values = values_of os }))
   one_behind cs later q e keeps f g = ap due_behind f
       ∙ ap₂ (λ (vs : List Value) (ks : List State). together (part_due (loosenings_of s) (record { problem = problem_of q; may_keep = ks; later = problems_of later; values = vs }))) (values_brief os) g
 
   -- with one more value
   pub value_behind : (cs : List (Parts × Bool)) (vs : List Value) → map brief vs ≡ map brief (values_of os) →
-      together (lean_session (next_part (loosenings_of s) (problem_of p) (states_of Ls) vs (problems_of cs))) ≡ due_behind cs
-  value_behind cs vs e = ap (λ (d : SessionDue). together d) (behind_lean (loosenings_of s) (problem_of p) (states_of Ls) vs (values_of os) (problems_of cs) e)
+      together (lean_session (next_part (loosenings_of s) (problem_of p) Ls vs (problems_of cs))) ≡ due_behind cs
+  value_behind cs vs e = ap (λ (d : SessionDue). together d) (behind_lean (loosenings_of s) (problem_of p) Ls vs (values_of os) (problems_of cs) e)
 
 -- ---- the lemmas that may be kept
 
@@ -91,20 +88,13 @@ may-keep q true true o g h = cc
 may-keep q true false (Some i) g h = cc
 may-keep q true false None g h = record { extends = refl; box = g }
 
-pub can_keep_all : (e : Bool) (p q : Parts) (Ls : List code.Lemma) → may_keep e p q ≡ true → AllFit p Ls → (e ≡ true → GoesOnFrom (problem_of p) (problem_of q)) → CanBeKept q Ls
-can_keep_all e p q Ls h fit goes =
-    let m = may-keep q e (is_crossed_box (problem_of p)) (first_crossed (problem_of q)) refl h in
-    let g = goes m.extends in
-    record { each = λ k d l. has-more (get_or Ls k d) (fit k d l) g; box = inr m.box }
-  where
-    has-more : (L : code.Lemma) → Fits p (lemma_of L) → GoesOnFrom (problem_of p) (problem_of q) → HasMore q L
-    has-more L f g = record {
-      axes = omega (arith, f.axes, more_axes p q g);
-      atoms = omega (arith, f.atoms, length_marks L.atoms L.yes.items L.no.items, more_atoms p q g);
-    }
+pub no_crossed_axis : (e : Bool) (p q : Parts) → may_keep e p q ≡ true → first_crossed (problem_of q) ≡ None
+no_crossed_axis e p q h = (may-keep q e (is_crossed_box (problem_of p)) (first_crossed (problem_of q)) refl h).box
 
-pub kept_none : (q : Parts) (Ls : List code.Lemma) → Ls ≡ [] → CanBeKept q Ls
-kept_none q Ls e = subst (CanBeKept q) (sym e) (record { each = λ k d l. absurd (omega (arith, l)); box = inl refl })
+pub more_of_each : (e : Bool) (p q : Parts) (Ss : List State) → may_keep e p q ≡ true → AllFit p Ss → (e ≡ true → GoesOnFrom (problem_of p) (problem_of q)) → All (HasMore q) Ss
+more_of_each e p q Ss h fit goes =
+    let g = goes (may-keep q e (is_crossed_box (problem_of p)) (first_crossed (problem_of q)) refl h).extends in
+    λ k d l. record { axes = omega (arith, (fit k d l).axes, more_axes p q g); atoms = omega (arith, (fit k d l).atoms, more_atoms p q g) }
 
 -- ---- inside a part
 
@@ -112,11 +102,11 @@ lean-left-blanks : (n : ℕ) → lean_left (blanks n) ≡ blanks n
 lean-left-blanks n = ap blanks (length_blanks n)
 
 pub held_lean : (p : Parts) (d : held.Due) → lean (due_of p d) ≡ due_of p d
-held_lean p (due.Tree c t n) = ap (λ (l : List Standing). tree_due (loosenings_of c.loosenings) (states_of c.lemmas.items) (state_of t.state) (pending_of t.pending) l) (lean-left-blanks n)
-held_lean p (due.End c n) = ap (λ (l : List Standing). end_due (loosenings_of c.loosenings) (states_of c.lemmas.items) (left_open l)) (lean-left-blanks n)
-held_lean p (due.Nothing s (kept.Left Ls n)) = ap (λ (l : List Standing). nothing_due (loosenings_of s) (states_of Ls.items) (left_open l)) (lean-left-blanks n)
+held_lean p (due.Tree c t n) = ap (λ (l : List Standing). tree_due (loosenings_of c.loosenings) c.lemmas (state_of t.state) (pending_of t.pending) l) (lean-left-blanks n)
+held_lean p (due.End c n) = ap (λ (l : List Standing). end_due (loosenings_of c.loosenings) c.lemmas (left_open l)) (lean-left-blanks n)
+held_lean p (due.Nothing s (kept.Left Ls n)) = ap (λ (l : List Standing). nothing_due (loosenings_of s) Ls (left_open l)) (lean-left-blanks n)
 held_lean p (due.Nothing s (kept.Point x)) = refl
-held_lean p (due.Axis c space) = lean_axis (loosenings_of c.loosenings) c.count (states_of c.lemmas.items) (drop (length (space_of space)) p.axes) (space_of space)
+held_lean p (due.Axis c space) = lean_axis (loosenings_of c.loosenings) c.count c.lemmas (drop (length (space_of space)) p.axes) (space_of space)
 held_lean p (due.Coordinate s space) = lean_coordinate (loosenings_of s) (drop (length (space_of space)) p.axes) (space_of space)
 held_lean p _ = refl
 
@@ -135,7 +125,7 @@ coordinate-inside t s (a ∷ axes) space = refl
 
 held-inside : (t : parts.Part) (p : Parts) (d : held.Due) → IsWithin d → inside t (due_of p d) ≡ inside_due t (due_of p d)
 held-inside t p (due.Nothing s v) h = absurd h
-held-inside t p (due.Axis c space) h = axis-inside t (loosenings_of c.loosenings) c.count (states_of c.lemmas.items) (drop (length (space_of space)) p.axes) (space_of space)
+held-inside t p (due.Axis c space) h = axis-inside t (loosenings_of c.loosenings) c.count c.lemmas (drop (length (space_of space)) p.axes) (space_of space)
 held-inside t p (due.Coordinate s space) h = coordinate-inside t (loosenings_of s) (drop (length (space_of space)) p.axes) (space_of space)
 held-inside t p _ h = refl
 
@@ -160,12 +150,12 @@ module _ (s : Loosenings) (t : Part) (session : Bor (List (Parts × Bool))) (her
       let at = subst (λ (o : Option (Bor (List (Parts × Bool)))). IsPlace o t.number t.problem) here place in
       goes_on_next session.now t.number t.problem q e at.1 at.0 f g h
 
-  pub last_part : (Ls : List code.Lemma) → length session.now ≤ t.number + 1 →
+  pub last_part : (Ls : List State) → length session.now ≤ t.number + 1 →
       due_behind s t.problem Ls t.values.items (checks_from t.session (suc t.number)) ≡ together (all_done (loosenings_of s) (values_of t.values.items))
   last_part Ls h = none_behind s t.problem Ls t.values.items (checks_from t.session (suc t.number)) (from-here (suc t.number) ∙ drop_all (suc t.number) session.now (omega (arith, h)))
 
-  pub next_comes : (Ls : List code.Lemma) (q q' : Parts) (e : Bool) (tools : Tools) (keeps keeps' : Vec code.Lemma Global) → problem_at session.now (t.number + 1) ≡ Some q → extends_at session.now (t.number + 1) ≡ Some e →
-      map (carried (problem_of q)) (states_of keeps.items) ≡ kept_by e (problem_of t.problem) (states_of Ls) (problem_of q) → q' ≡ q → keeps' ≡ keeps →
+  pub next_comes : (Ls : List State) (q q' : Parts) (e : Bool) (tools : Tools) (keeps keeps' : List State) → problem_at session.now (t.number + 1) ≡ Some q → extends_at session.now (t.number + 1) ≡ Some e →
+      keeps ≡ kept_by e (problem_of t.problem) Ls (problem_of q) → q' ≡ q → keeps' ≡ keeps →
       due_behind s t.problem Ls t.values.items (checks_from t.session (suc t.number))
       ≡ together (part_due (loosenings_of s) (part_of (record { session = t.session; number = t.number + 1; problem = q'; tools = tools; may_keep = keeps'; values = t.values })))
   next_comes Ls q q' e tools keeps keeps' f g h i j =
@@ -173,14 +163,14 @@ module _ (s : Loosenings) (t : Part) (session : Bor (List (Parts × Bool))) (her
       let cs : checks_from t.session (suc t.number) ≡ (q, e) ∷ checks_from t.session (suc (t.number + 1)) =
       from-here (suc t.number) ∙ from_check session.now (suc t.number) q e (ap (problem_at session.now) (sym same) ∙ f) (ap (extends_at session.now) (sym same) ∙ g)
       ∙ ap (λ (xs : List (Parts × Bool)). (q, e) ∷ xs) (ap (λ (k : ℕ). drop (suc k) session.now) (sym same) ∙ sym (from-here (suc (t.number + 1)))) in
-      one_behind s t.problem Ls t.values.items (checks_from t.session (suc t.number)) (checks_from t.session (suc (t.number + 1))) q e (map (carried (problem_of q)) (states_of keeps.items)) cs (sym h)
-      ∙ ap₂ (λ (x : Parts) (ks : Vec code.Lemma Global). together (part_due (loosenings_of s) (part_of (record { session = t.session; number = t.number + 1; problem = x; tools = tools; may_keep = ks; values = t.values })))) (sym i) (sym j)
+      one_behind s t.problem Ls t.values.items (checks_from t.session (suc t.number)) (checks_from t.session (suc (t.number + 1))) q e keeps cs (sym h)
+      ∙ ap₂ (λ (x : Parts) (ks : List State). together (part_due (loosenings_of s) (part_of (record { session = t.session; number = t.number + 1; problem = x; tools = tools; may_keep = ks; values = t.values })))) (sym i) (sym j)
 
 -- ---- a part with its value
 
 module _ (s : Loosenings) (p : Parts) (v : value.Value) (os more : List Outcome) (o : Outcome) (pushed : more ≡ os ++ (o ∷ [])) (told : outcome_value o ≡ brief (value_of v)) (cs : List (Parts × Bool)) where
   abbrev pub due_with_value : Work
-  due_with_value = together (lean_session (next_part (loosenings_of s) (problem_of p) (states_of (lemmas_of v)) (values_of os ++ (value_of v ∷ [])) (problems_of cs)))
+  due_with_value = together (lean_session (next_part (loosenings_of s) (problem_of p) (lemmas_of v) (values_of os ++ (value_of v ∷ [])) (problems_of cs)))
 
   pub with_value : due_with_value ≡ due_behind s p (lemmas_of v) more cs
   with_value = value_behind s p (lemmas_of v) more cs (values_of os ++ (value_of v ∷ [])) (values_more os o (value_of v) told ∙ ap (λ (xs : List Outcome). map brief (values_of xs)) (sym pushed))
@@ -188,5 +178,5 @@ module _ (s : Loosenings) (p : Parts) (v : value.Value) (os more : List Outcome)
   pub only_part : cs ≡ [] → due_with_value ≡ together (all_done (loosenings_of s) (values_of more))
   only_part e = with_value ∙ none_behind s p (lemmas_of v) more cs e
 
-  pub not_only : (Ls : List code.Lemma) → Ls ≡ lemmas_of v → due_with_value ≡ due_behind s p Ls more cs
-  not_only Ls e = with_value ∙ ap (λ (xs : List code.Lemma). due_behind s p xs more cs) (sym e)
+  pub not_only : (Ls : List State) → Ls ≡ lemmas_of v → due_with_value ≡ due_behind s p Ls more cs
+  not_only Ls e = with_value ∙ ap (λ (xs : List State). due_behind s p xs more cs) (sym e)

@@ -9,9 +9,7 @@ use Rattle.poly_graph.specs.ProblemViews.{Parts, problem_of}
 use Rattle.problem_session.specs.Session.{problems_of}
 use Rattle.std.specs.Prelude.{slice_index_or}
 use Rattle.std.proofs.lemmas.Bool.{le-leb, eq-eqb}
-use Rattle.std.proofs.lemmas.List.{length-map, take-map}
-use Rattle.cover_model.specs.Carried.{carried}
-use Rattle.cert_check.specs.declared.standing.Lemma as code-lemma
+use Rattle.std.proofs.lemmas.List.Elements.{All-take}
 use Rattle.cert_read.specs.CertLine.{CertLine, checks, cover, keep}
 use Rattle.cert_model.specs.Due as due
 use Rattle.cert_model.specs.Due.{Value, Due, kind_due, axis_next, coordinate_next, Next, NextOf, on, faulty}
@@ -30,9 +28,9 @@ use Rattle.ival.specs.SpaceViews.{space_of}
 use Rattle.interval_model.specs.Space.{Space}
 use Rattle.poly_graph.specs.Problem.{Axis}
 use Rattle.cover_model.specs.State as states
-use Rattle.cert_check.specs.States.{lemma_of, loosenings_of}
+use Rattle.cert_check.specs.States.{Fits, loosenings_of}
 use Rattle.cert_check.specs.Faults.{IsRefused}
-use Rattle.cert_check.specs.Dues.{states_of, due_of, lean_next, next_map}
+use Rattle.cert_check.specs.Dues.{AllFit, due_of, lean_next, next_map}
 use Rattle.cert_check.specs.Work.{Work, alone, together, spent, lean_session, lean_work}
 use Rattle.cert_check.specs.Works.{values_of, part_of, spent_part_of, work_of, checks_from, first_of, IsFirst, IsInside, IsNoVersion, IsPart, IsPlace, IsTooled, IsSpent, AreSameChecks}
 use Rattle.cert_check.proofs.Leans.{in_part_lean, in_header_lean, together_next}
@@ -136,21 +134,20 @@ checks_goes t s n b h f e =
     ap (λ (x : Bool). next_map lean_work (next_map (λ (d : SessionDue). together d) (due.given x (model.part_due s (model.first_part (problem_of (first_of t.session t.problem)) later)) due.BadHeader)))
     (eq-eqb n (suc (length later)) (e ∙ ap suc (sym (length-problems (checks_from t.session 1)))))
     ∙ ap₂ (λ (p : Parts) (k : ℕ). on (together (model.part_due s (record { problem = problem_of p; may_keep = []; later = problems_of (checks_from t.session (suc k)); values = [] })))) (first_is t h f.number) (sym f.number)
-    ∙ ap₂ (λ (Ls : List code-lemma.Lemma) (os : List Outcome). on (together (model.part_due s (record { problem = problem_of t.problem; may_keep = map (carried (problem_of t.problem)) (states_of Ls); later = problems_of (checks_from t.session (suc t.number)); values = values_of os })))) (sym f.may_keep) (sym f.values)
+    ∙ ap₂ (λ (Ls : List State) (os : List Outcome). on (together (model.part_due s (record { problem = problem_of t.problem; may_keep = Ls; later = problems_of (checks_from t.session (suc t.number)); values = values_of os })))) (sym f.may_keep) (sym f.values)
 
 -- `keep`
-pub keep_goes : (t new : Part) (s : states.Loosenings) (k q : ℕ) (b : Option ℕ) (kept : List State) → q ≤ k → q ≤ length t.may_keep.items → IsSpent t new →
-    kept ≡ map (carried (problem_of t.problem)) (states_of (take q t.may_keep.items)) →
+pub keep_goes : (t new : Part) (s : states.Loosenings) (k q : ℕ) (b : Option ℕ) (kept : List State) → q ≤ k → q ≤ length t.may_keep → IsSpent t new → kept ≡ take q t.may_keep →
     next_map lean_work (next_map (λ (d : SessionDue). together d) (model.session_next (problem_of (first_of t.session t.problem)) (problems_of (checks_from t.session 1)) b (model.keep_due s k (part_of t)) (keep q)))
     ≡ on (together (model.first_due s k kept (spent_part_of new)))
 keep_goes t new s k q b kept l m h e =
-    let keeps = map (carried (problem_of t.problem)) (states_of t.may_keep.items) in
-    let count : length keeps ≡ length t.may_keep.items = length-map (states_of t.may_keep.items) (carried (problem_of t.problem)) ∙ length-map t.may_keep.items lemma_of in
-    let test : (nat_le q k && nat_le q (length keeps)) ≡ true = ap₂ (λ (x y : Bool). x && y) (le-leb q k l) (le-leb q (length keeps) (omega (arith, m, count))) in
-    ap (λ (x : Bool). next_map lean_work (next_map (λ (d : SessionDue). together d) (due.given x (model.first_due s k (take q keeps) (part_of t)) due.KeepFails))) test
-    ∙ ap₂ (λ (xs : List State) (u : model.Part). on (together (model.first_due s k xs u)))
-    (take-map (carried (problem_of t.problem)) q (states_of t.may_keep.items) ∙ ap (map (carried (problem_of t.problem))) (take-map lemma_of q t.may_keep.items) ∙ sym e)
-    (spent_part t ∙ sym (spent_spent t new h))
+    let test : (nat_le q k && nat_le q (length t.may_keep)) ≡ true = ap₂ (λ (x y : Bool). x && y) (le-leb q k l) (le-leb q (length t.may_keep) m) in
+    ap (λ (x : Bool). next_map lean_work (next_map (λ (d : SessionDue). together d) (due.given x (model.first_due s k (take q t.may_keep) (part_of t)) due.KeepFails))) test
+    ∙ ap₂ (λ (xs : List State) (u : model.Part). on (together (model.first_due s k xs u))) (sym e) (spent_part t ∙ sym (spent_spent t new h))
+
+-- the first of them fit the problem, as all do
+pub kept_fit : (p q : Parts) (n : ℕ) (all cut : List State) → cut ≡ take n all → p ≡ q → AllFit q all → AllFit p cut
+kept_fit p q n all cut e f h = subst (λ (r : Parts). AllFit r cut) (sym f) (subst (AllFit q) (sym e) (All-take (Fits q) n all h))
 
 -- a line that follows `keep`
 pub none_goes : (x : Next) (d : Due) → lean_next x ≡ on d → lean_next (none_complete x) ≡ on d
@@ -175,7 +172,7 @@ held_work_lean t (work.Header d) = ap (λ (e : Due). together (header_due e)) (h
 held_work_lean t (work.Checks s) = refl
 held_work_lean t (work.Part s) = ap (λ (vs : List Value). together (model.part_due (loosenings_of s) (record (part_of t) { values = vs }))) (values_brief t.values.items)
 held_work_lean t (work.Keep s k) = ap (λ (vs : List Value). together (model.keep_due (loosenings_of s) k (record (part_of t) { values = vs }))) (values_brief t.values.items)
-held_work_lean t (work.First c) = ap (λ (u : model.Part). together (model.first_due (loosenings_of c.loosenings) c.count (states_of c.lemmas.items) u)) (spent_again t)
+held_work_lean t (work.First c) = ap (λ (u : model.Part). together (model.first_due (loosenings_of c.loosenings) c.count c.lemmas u)) (spent_again t)
 held_work_lean t (work.Inside d) = ap₂ (λ (u : model.Part) (e : Due). together (model.inside_due u e)) (spent_again t) (held_lean t.problem d)
 held_work_lean t (work.Done s) = ap (λ (vs : List Value). together (model.all_done (loosenings_of s) vs)) (values_brief t.values.items)
 
@@ -191,7 +188,7 @@ module _ (P : Problem) (later : List (Problem × Bool)) (b : Option ℕ) (l : Ce
 
   header-step : (p : Parts) (d : held.Due) → IsNoVersion d → model.session_next P later b (header_due (due_of p d)) l ≡ in_header (next P b (due_of p d) l)
   header-step p code.Version h = absurd h
-  header-step p (code.Axis c space) h = axis-step (loosenings_of c.loosenings) c.count (states_of c.lemmas.items) (drop (length (space_of space)) p.axes) (space_of space)
+  header-step p (code.Axis c space) h = axis-step (loosenings_of c.loosenings) c.count c.lemmas (drop (length (space_of space)) p.axes) (space_of space)
   header-step p (code.Coordinate s space) h = coordinate-step (loosenings_of s) (drop (length (space_of space)) p.axes) (space_of space)
   header-step p _ h = refl
 
@@ -215,7 +212,7 @@ module _ (t : Part) (is : IsPart t) (number : t.number ≡ 0) (b : Option ℕ) (
 pub tooled_first : (old new : Part) → IsTooled old new → IsFirst old → IsFirst new
 tooled_first old new t f = record {
   number = t.number ∙ f.number;
-  may_keep = ap (λ (v : Vec code-lemma.Lemma Global). v.items) t.may_keep ∙ f.may_keep;
+  may_keep = t.may_keep ∙ f.may_keep;
   values = ap (λ (v : Vec Outcome Global). v.items) t.values ∙ f.values;
 }
 
@@ -226,9 +223,3 @@ cover_goes t s k b l e h =
     ap (λ (x : CertLine). next_map lean_work (next_map (λ (d : SessionDue). together d) (model.session_next (problem_of (first_of t.session t.problem)) (problems_of (checks_from t.session 1)) b (model.part_due s (part_of t)) x))) e
     ∙ ap (λ (x : Bool). next_map lean_work (next_map (λ (d : SessionDue). together d) (due.given x (model.keep_due s k (part_of t)) due.BadHeader))) (le-leb k most_lemmas h)
     ∙ ap (λ (vs : List Value). on (together (model.keep_due s k (record (part_of t) { values = vs })))) (values_brief t.values.items)
-
--- the states of the lemmas that are kept
-pub kept_states : (t mid : Part) (q : ℕ) (taken cut kept : List code-lemma.Lemma) (ok : Vec code-lemma.Lemma Global) → IsSpent t mid → ok ≡ t.may_keep → taken ≡ ok.items → cut ≡ take q taken →
-    states_of kept ≡ map (carried (problem_of mid.problem)) (states_of cut) → states_of kept ≡ map (carried (problem_of t.problem)) (states_of (take q t.may_keep.items))
-kept_states t mid q taken cut kept ok h e f g i =
-    i ∙ ap₂ (λ (p : Parts) (Ls : List code-lemma.Lemma). map (carried (problem_of p)) (states_of Ls)) h.problem (g ∙ ap (take q) (f ∙ ap (λ (v : Vec code-lemma.Lemma Global). v.items) e))

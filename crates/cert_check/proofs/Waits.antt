@@ -1,6 +1,6 @@
 -- What is due in a tree after a rule.
 use Rattle.std.proofs.Common.{◌≡◌, ℕ, suc, zero, ◌+◌, ◌<◌, ◌≤◌, List, [], ◌∷◌, ◌++◌, length, map, All, drop, get_or, Bool, true, false, Option, Some, refl, ap, ap₂, sym, subst, ◌∙◌, append-nil, true≢false, arith, length-append}
-use Rattle.std.proofs.lemmas.List.{map-append, drop_more, drop_all, get_or-map, length-map}
+use Rattle.std.proofs.lemmas.List.{drop_more, drop_all, get_or-map, length-map}
 use Rattle.interval_model.specs.Space.{Domain, Space}
 use Rattle.cert_read.specs.CertLine.{CertLine}
 use Rattle.poly_graph.specs.declared.axis.Axis as code-axis
@@ -10,14 +10,10 @@ use Rattle.cover_model.specs.Rules.{Left, closed, one, two, stays}
 use Rattle.poly_graph.specs.ProblemViews.{axis_of, Parts}
 use Rattle.cert_model.specs.Due.{CertFault, Standing, left_open, Due, next_due, lemma_due, tree_due, end_due, Next, on, faulty, after_rule, after_lemma_rule, tree_goes_on, lemma_goes_on, axis_next, coordinate_next}
 use Rattle.cert_model.specs.Accepted.{ruled_line, next, axis_line, coordinate_line}
-use Rattle.cert_check.specs.declared.standing.Lemma as code
 use Rattle.cert_check.specs.declared.due.Tree.{Tree}
-use Rattle.cert_check.specs.States.{lemma_of, state_of, Fits}
-use Rattle.cert_check.specs.Dues.{blanks, IsTree, lean_left, lean, lean_next, states_of}
+use Rattle.cert_check.specs.States.{state_of, Fits}
+use Rattle.cert_check.specs.Dues.{blanks, IsTree, lean_left, lean, lean_next}
 use Rattle.cert_check.specs.Waiting.{FitsLeft, left_states, counted_stays, is_stays, waiting}
-
-pub states_more : (xs : List code.Lemma) (L : code.Lemma) → states_of (xs ++ (L ∷ [])) ≡ states_of xs ++ (lemma_of L ∷ [])
-states_more xs L = map-append lemma_of xs (L ∷ [])
 
 fits-more : (p : Parts) (S : State) (xs : List State) → Fits p S → All (Fits p) xs → All (Fits p) (S ∷ xs)
 fits-more p S xs f h zero d l = f

@@ -54,17 +54,14 @@ lean_next x = next_map lean x
 
 -- ---- views
 
-abbrev pub states_of : List code.Lemma → List State
-states_of Ls = map lemma_of Ls
-
 abbrev pub value_of : value.Value → Value
 value_of (kept.Point space) = at_point (space_of space)
 value_of (kept.Left Ls n) = left_open (blanks n)
 
 -- the lemmas of a cover; a point has none
-abbrev pub lemmas_of : value.Value → List code.Lemma
+abbrev pub lemmas_of : value.Value → List State
 lemmas_of (kept.Point space) = []
-lemmas_of (kept.Left Ls n) = Ls.items
+lemmas_of (kept.Left Ls n) = Ls
 
 abbrev pub due_of : Parts → held.Due → Due
 due_of p due.Version = version_due
@@ -72,20 +69,20 @@ due_of p (due.Margin v) = margin_due v
 due_of p (due.Delta v m) = delta_due v m
 due_of p (due.Bound s) = bound_due (loosenings_of s)
 due_of p (due.Kind s) = kind_due (loosenings_of s)
-due_of p (due.Next c) = next_due (loosenings_of c.loosenings) c.count (states_of c.lemmas.items)
-due_of p (due.Axis c space) = axis_next (loosenings_of c.loosenings) c.count (states_of c.lemmas.items) (drop (length (space_of space)) p.axes) (space_of space)
-due_of p (due.No c space js) = no_due (loosenings_of c.loosenings) c.count (states_of c.lemmas.items) (space_of space) js.items
-due_of p (due.Lemma c L t) = lemma_due (loosenings_of c.loosenings) c.count (states_of c.lemmas.items) (lemma_of L) (state_of t.state) (pending_of t.pending)
-due_of p (due.Root c) = root_due (loosenings_of c.loosenings) (states_of c.lemmas.items)
-due_of p (due.Tree c t n) = tree_due (loosenings_of c.loosenings) (states_of c.lemmas.items) (state_of t.state) (pending_of t.pending) (blanks n)
+due_of p (due.Next c) = next_due (loosenings_of c.loosenings) c.count c.lemmas
+due_of p (due.Axis c space) = axis_next (loosenings_of c.loosenings) c.count c.lemmas (drop (length (space_of space)) p.axes) (space_of space)
+due_of p (due.No c space js) = no_due (loosenings_of c.loosenings) c.count c.lemmas (space_of space) js.items
+due_of p (due.Lemma c L t) = lemma_due (loosenings_of c.loosenings) c.count c.lemmas (lemma_of L) (state_of t.state) (pending_of t.pending)
+due_of p (due.Root c) = root_due (loosenings_of c.loosenings) c.lemmas
+due_of p (due.Tree c t n) = tree_due (loosenings_of c.loosenings) c.lemmas (state_of t.state) (pending_of t.pending) (blanks n)
 due_of p (due.Coordinate s space) = coordinate_next (loosenings_of s) (drop (length (space_of space)) p.axes) (space_of space)
-due_of p (due.End c n) = end_due (loosenings_of c.loosenings) (states_of c.lemmas.items) (left_open (blanks n))
-due_of p (due.Nothing s v) = nothing_due (loosenings_of s) (states_of (lemmas_of v)) (value_of v)
+due_of p (due.End c n) = end_due (loosenings_of c.loosenings) c.lemmas (left_open (blanks n))
+due_of p (due.Nothing s v) = nothing_due (loosenings_of s) (lemmas_of v) (value_of v)
 
 -- ---- what holds of the states in work
 
-abbrev pub AllFit : Parts → List code.Lemma → Type 0
-AllFit p Ls = All (λ L. Fits p (lemma_of L)) Ls
+abbrev pub AllFit : Parts → List State → Type 0
+AllFit p Ls = All (Fits p) Ls
 
 pub record IsTree (p : Parts) (t : Tree) : Type 0 where
   pub state : Fits p (state_of t.state)
@@ -97,14 +94,14 @@ pub record HasRoom (p : Parts) (axes capacity : ℕ) : Type 0 where
   pub room : length p.axes ≤ capacity
 
 abbrev pub IsSound : Parts → held.Due → Type 0
-IsSound p (due.Next c) = AllFit p c.lemmas.items
-IsSound p (due.Axis c space) = AllFit p c.lemmas.items × HasRoom p (length (space_of space)) (capacity_of space)
-IsSound p (due.No c space js) = AllFit p c.lemmas.items × (length (space_of space) ≡ length p.axes) × IsTrue (all_below (length p.atoms) js.items)
-IsSound p (due.Lemma c L t) = AllFit p c.lemmas.items × Fits p (lemma_of L) × IsTree p t
-IsSound p (due.Root c) = AllFit p c.lemmas.items
-IsSound p (due.Tree c t n) = AllFit p c.lemmas.items × IsTree p t
+IsSound p (due.Next c) = AllFit p c.lemmas
+IsSound p (due.Axis c space) = AllFit p c.lemmas × HasRoom p (length (space_of space)) (capacity_of space)
+IsSound p (due.No c space js) = AllFit p c.lemmas × (length (space_of space) ≡ length p.axes) × IsTrue (all_below (length p.atoms) js.items)
+IsSound p (due.Lemma c L t) = AllFit p c.lemmas × Fits p (lemma_of L) × IsTree p t
+IsSound p (due.Root c) = AllFit p c.lemmas
+IsSound p (due.Tree c t n) = AllFit p c.lemmas × IsTree p t
 IsSound p (due.Coordinate s space) = HasRoom p (length (space_of space)) (capacity_of space)
-IsSound p (due.End c n) = AllFit p c.lemmas.items
+IsSound p (due.End c n) = AllFit p c.lemmas
 IsSound p (due.Nothing s v) = AllFit p (lemmas_of v)
 IsSound p d = Unit {0}
 
@@ -133,7 +130,7 @@ IsNextAnywhere d line r = (p : Parts) → IsNext p d line r
 
 -- `yes` of a lemma's state whose space is whole
 abbrev pub yes_of : Cover → Space → Due
-yes_of c space = yes_due (loosenings_of c.loosenings) c.count (states_of c.lemmas.items) (space_of space)
+yes_of c space = yes_due (loosenings_of c.loosenings) c.count c.lemmas (space_of space)
 
 -- `end` of a point whose space is whole
 abbrev pub end_of_point : Loosenings → Space → Due
@@ -141,14 +138,14 @@ end_of_point s space = end_due (loosenings_of s) [] (at_point (space_of space))
 
 -- the first line of the tree of a lemma with this state
 abbrev pub begun_lemma : Cover → code.Lemma → Next
-begun_lemma c L = on (lemma_due (loosenings_of c.loosenings) c.count (states_of c.lemmas.items) (lemma_of L) (lemma_of L) [])
+begun_lemma c L = on (lemma_due (loosenings_of c.loosenings) c.count c.lemmas (lemma_of L) (lemma_of L) [])
 
 -- what is due after a rule of the main tree that leaves this, with what is due where it fails
 abbrev pub after_main_rule : Cover → Pending → ℕ → rules.Left → CertFault → Standing → Next
 after_main_rule c pending stayed left f x =
-    after_rule (Some left) f x (pending_of pending) (blanks stayed) (tree_goes_on (loosenings_of c.loosenings) (states_of c.lemmas.items))
+    after_rule (Some left) f x (pending_of pending) (blanks stayed) (tree_goes_on (loosenings_of c.loosenings) c.lemmas)
 
 -- what is due after a rule of the tree of a lemma with this state
 abbrev pub after_rule_of_lemma : Cover → code.Lemma → Pending → rules.Left → CertFault → Next
 after_rule_of_lemma c L pending left f =
-    after_lemma_rule (Some left) f (pending_of pending) (lemma_goes_on (loosenings_of c.loosenings) c.count (states_of c.lemmas.items) (lemma_of L))
+    after_lemma_rule (Some left) f (pending_of pending) (lemma_goes_on (loosenings_of c.loosenings) c.count c.lemmas (lemma_of L))

@@ -2,6 +2,7 @@
 use Rattle.std.specs.Prelude.{◌≡◌, List, [], map, Option, Some, None}
 use Rattle.cover_model.specs.Rules as rules
 use Rattle.cover_model.specs.Rules.{Line, rule}
+use Rattle.cover_model.specs.State as model
 use Rattle.cover_model.specs.State.{Loosenings}
 use Rattle.poly_graph.specs.ProblemViews.{Parts, problem_of}
 use Rattle.cover_line.specs.Views.{line_of as rule_of}
@@ -10,9 +11,8 @@ use Rattle.cert_check.specs.declared.said.TreeLine.{TreeLine}
 use Rattle.cert_check.specs.declared.said.TreeLine.TheVariants as said
 use Rattle.cert_check.specs.declared.left.Left.{Left}
 use Rattle.cert_check.specs.declared.left.Left.TheVariants.{Closed, One, Two, Stays}
-use Rattle.cert_check.specs.declared.standing.Lemma.{Lemma}
 use Rattle.cert_check.specs.declared.state.State.{State}
-use Rattle.cert_check.specs.States.{state_of, lemma_of}
+use Rattle.cert_check.specs.States.{state_of}
 
 -- neither a line of a tree nor one that begins a lemma, the main tree or the end
 abbrev pub IsOther : CertLine → Type 0
@@ -45,8 +45,8 @@ lefts None = None
 lefts (Some l) = Some (left_of l)
 
 -- what a rule leaves of a state, where these lemmas stand; none, where its condition fails
-abbrev pub IsLeftBy : Line → Parts → Loosenings → List Lemma → State → Option Left → Type 0
-IsLeftBy r p s lemmas S left = lefts left ≡ rule (problem_of p) s (map lemma_of lemmas) (state_of S) r
+abbrev pub IsLeftBy : Line → Parts → Loosenings → List model.State → State → Option Left → Type 0
+IsLeftBy r p s lemmas S left = lefts left ≡ rule (problem_of p) s lemmas (state_of S) r
 
 -- the same for a rule that asks for nothing but the state
 abbrev pub IsLeftAnywhere : Line → State → Option Left → Type 0

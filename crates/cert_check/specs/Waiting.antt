@@ -37,12 +37,12 @@ FitsLeft p (Some (two S T)) = Fits p S × Fits p T
 FitsLeft p _ = Unit {0}
 
 -- what is due in the main tree behind a rule that left this has these domains and marks, where the states before it have them
-abbrev pub IsSoundBehind : List code.Lemma → Pending → code-left.Left → Result Due Refusal → Type 0
+abbrev pub IsSoundBehind : List State → Pending → code-left.Left → Result Due Refusal → Type 0
 IsSoundBehind lemmas pending left r =
     (p : Parts) → AllFit p lemmas → All (Fits p) (pending_of pending) → FitsLeft p (Some (left_of left)) → IfOk r (IsSound p)
 
 -- and in the tree of a lemma
-abbrev pub IsSoundInLemma : List code.Lemma → code.Lemma → Pending → code-left.Left → Result Due Refusal → Type 0
+abbrev pub IsSoundInLemma : List State → code.Lemma → Pending → code-left.Left → Result Due Refusal → Type 0
 IsSoundInLemma lemmas lemma pending left r =
     (p : Parts) → AllFit p lemmas → Fits p (lemma_of lemma) → All (Fits p) (pending_of pending) → FitsLeft p (Some (left_of left)) → IfOk r (IsSound p)
 

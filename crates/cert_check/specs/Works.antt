@@ -1,17 +1,14 @@
 -- The parts of the code as the definitions see them.
-use Rattle.std.specs.Prelude.{◌≡◌, ◌⊎◌, ℕ, suc, List, [], Bool, Option, Some, None, Result, Ok, Err, map, drop, slice_get, slice_index_or, All, length, ◌≤◌}
+use Rattle.std.specs.Prelude.{◌≡◌, ℕ, suc, List, [], Bool, Option, Some, None, Result, Ok, Err, map, drop, slice_get, slice_index_or, length}
 use Rattle.std.specs.Borrow.{Bor}
-use Rattle.cover_model.specs.Carried.{carried}
-use Rattle.poly_graph.specs.Problem.{first_crossed}
+use Rattle.cover_model.specs.State.{State}
 use Rattle.poly_graph.specs.ProblemViews.{Parts, problem_of}
-use Rattle.ival.specs.SpaceViews.{space_of}
 use Rattle.problem_session.specs.Session.{problems_of}
 use Rattle.cert_read.specs.CertLine.{CertLine}
 use Rattle.cert_model.specs.Due.{Value, at_point, left_open, NextOf, Next, on}
 use Rattle.cert_model.specs.Session as model
 use Rattle.cert_model.specs.Session.{header_due, checks_due, part_due, keep_due, first_due, inside_due, all_done, inside, next_part, in_header, none_complete, SessionDue}
 use Rattle.cert_model.specs.SessionLaws.{IsSession}
-use Rattle.cert_check.specs.declared.standing.Lemma as code
 use Rattle.cert_check.specs.declared.part.Outcome.{Outcome}
 use Rattle.cert_check.specs.declared.part.Outcome.TheVariants.{Point, Left}
 use Rattle.cert_check.specs.declared.part.Part.{Part}
@@ -22,7 +19,7 @@ use Rattle.cert_check.specs.declared.work.Work as held
 use Rattle.cert_check.specs.declared.work.Work.TheVariants as work
 use Rattle.cert_check.specs.declared.refusal.Refusal.{Refusal}
 use Rattle.cert_check.specs.States.{loosenings_of}
-use Rattle.cert_check.specs.Dues.{blanks, next_map, states_of, due_of, AllFit, IsSound}
+use Rattle.cert_check.specs.Dues.{blanks, next_map, due_of, AllFit, IsSound}
 use Rattle.cert_check.specs.Serving.{Serves}
 use Rattle.cert_check.specs.Faults.{IsRefused}
 use Rattle.cert_check.specs.Work.{Work, alone, together, Checks, lean_work, work_next}
@@ -49,11 +46,10 @@ first_of (Some s) p = slice_index_or (map (λ (q : Parts × Bool). q.0) s.now) 0
 abbrev pub checks_of : Part → Option ℕ → Checks
 checks_of t bound = record { problem = first_of t.session t.problem; later = checks_from t.session 1; bound = bound }
 
--- the lemmas of the part before are held as they were there
 abbrev pub part_of : Part → model.Part
 part_of t = record {
   problem = problem_of t.problem;
-  may_keep = map (carried (problem_of t.problem)) (states_of t.may_keep.items);
+  may_keep = t.may_keep;
   later = problems_of (checks_from t.session (suc t.number));
   values = values_of t.values.items;
 }
@@ -68,7 +64,7 @@ work_of t (work.Header d) = together (header_due (due_of t.problem d))
 work_of t (work.Checks s) = together (checks_due (loosenings_of s))
 work_of t (work.Part s) = together (part_due (loosenings_of s) (part_of t))
 work_of t (work.Keep s k) = together (keep_due (loosenings_of s) k (part_of t))
-work_of t (work.First c) = together (first_due (loosenings_of c.loosenings) c.count (states_of c.lemmas.items) (spent_part_of t))
+work_of t (work.First c) = together (first_due (loosenings_of c.loosenings) c.count c.lemmas (spent_part_of t))
 work_of t (work.Inside d) = together (inside_due (spent_part_of t) (due_of t.problem d))
 work_of t (work.Done s) = together (all_done (loosenings_of s) (values_of t.values.items))
 
@@ -86,26 +82,16 @@ pub record IsPart (t : Part) : Type 0 where
 -- the first check
 pub record IsFirst (t : Part) : Type 0 where
   pub number : t.number ≡ 0
-  pub may_keep : t.may_keep.items ≡ []
+  pub may_keep : t.may_keep ≡ []
   pub values : t.values.items ≡ []
-
--- the problem has the axes and atoms of the lemma
-pub record HasMore (p : Parts) (L : code.Lemma) : Type 0 where
-  pub axes : length (space_of L.space) ≤ length p.axes
-  pub atoms : L.atoms ≤ length p.atoms
-
--- the lemmas can be kept in a cover of the problem
-pub record CanBeKept (p : Parts) (Ls : List code.Lemma) : Type 0 where
-  pub each : All (HasMore p) Ls
-  pub box : (Ls ≡ []) ⊎ (first_crossed (problem_of p) ≡ None)
 
 abbrev pub IsSoundWork : Part → held.Work → Type 0
 IsSoundWork t (work.Alone d) = (t.number ≡ 0) × IsSound t.problem d
 IsSoundWork t (work.Header d) = IsFirst t × IsSound t.problem d
 IsSoundWork t (work.Checks s) = IsFirst t
-IsSoundWork t (work.Part s) = CanBeKept t.problem t.may_keep.items
-IsSoundWork t (work.Keep s k) = CanBeKept t.problem t.may_keep.items
-IsSoundWork t (work.First c) = AllFit t.problem c.lemmas.items
+IsSoundWork t (work.Part s) = AllFit t.problem t.may_keep
+IsSoundWork t (work.Keep s k) = AllFit t.problem t.may_keep
+IsSoundWork t (work.First c) = AllFit t.problem c.lemmas
 IsSoundWork t (work.Inside d) = IsSound t.problem d
 IsSoundWork t (work.Done s) = Unit {0}
 
@@ -129,9 +115,9 @@ abbrev pub IsInside : Part → Due → Part → held.Work → Type 0
 IsInside old d new w = lean_work (together (inside (spent_part_of old) (due_of old.problem d))) ≡ work_of new w
 
 -- the same where the old part had these lemmas and its value stands among the others
-abbrev pub IsBehind : Part → Loosenings → List code.Lemma → Part → held.Work → Type 0
+abbrev pub IsBehind : Part → Loosenings → List State → Part → held.Work → Type 0
 IsBehind old s Ls new w =
-    lean_work (together (next_part (loosenings_of s) (problem_of old.problem) (states_of Ls) (values_of old.values.items) (problems_of (checks_from old.session (suc old.number))))) ≡ work_of new w
+    lean_work (together (next_part (loosenings_of s) (problem_of old.problem) Ls (values_of old.values.items) (problems_of (checks_from old.session (suc old.number))))) ≡ work_of new w
 
 -- ---- changes of a part in work
 
@@ -149,7 +135,7 @@ pub record IsSpent (old new : Part) : Type 0 where
   pub number : new.number ≡ old.number
   pub problem : new.problem ≡ old.problem
   pub tools : new.tools ≡ old.tools
-  pub may_keep : new.may_keep.items ≡ []
+  pub may_keep : new.may_keep ≡ []
   pub values : new.values ≡ old.values
 
 -- in a header this is due where that is in the header of a certificate of one check

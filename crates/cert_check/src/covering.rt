@@ -1,14 +1,10 @@
-// Whether lemmas cover states.
-ghost use Rattle.std.specs.Prelude.{◌≡◌, length, IsTrue};
+// Whether lemmas cover marks.
+ghost use Rattle.std.specs.Prelude.{◌≡◌, ◌≤◌, length, IsTrue};
 ghost use Rattle.std.specs.List.{list_all};
-ghost use Rattle.poly_graph.specs.Marks.{is_no, is_yes, mark_at, marks_within};
-ghost use Rattle.cover_model.specs.State.{covers};
+ghost use Rattle.poly_graph.specs.Marks.{is_no, is_yes, mark_at, marks_of, marks_within};
 ghost use Rattle.cert_model.specs.Due.{all_below};
-ghost use Rattle.ival.specs.SpaceViews.{space_of};
-ghost use Rattle.cert_check.specs.States.{lemma_of, state_of};
 
 use crate::standing::Lemma;
-use crate::state::State;
 use poly_graph::{Lits, Mark};
 
 // Whether each of the atoms is marked yes.
@@ -43,19 +39,12 @@ fn all_no(lits: &Lits, js: &[u32]) -> bool
     true
 }
 
-// Whether each mark of the lemma's state is one of these.
-fn marks_cover(lemma: &Lemma, lits: &Lits) -> bool
-    requires { lemma.now.atoms ≡ length lits.now }
-    ensures { result ≡ marks_within (lemma_of lemma.now).marks lits.now }
+/// Whether each atom that the lemma marks has the same mark here.
+#[tactic(auto, using(crate::proofs::Carried::below_more))]
+pub fn marks_cover(lemma: &Lemma, lits: &Lits) -> bool
+    requires { lemma.now.atoms ≤ length lits.now }
+    ensures { result ≡ marks_within
+        (marks_of (length lits.now) lemma.now.yes.items lemma.now.no.items) lits.now }
 {
     all_yes(lits, &lemma.yes) && all_no(lits, &lemma.no)
-}
-
-/// Whether the lemma covers a state of the same problem.
-pub fn covers(lemma: &Lemma, state: &State) -> bool
-    requires axes { length (space_of lemma.now.space) ≡ length (space_of state.now.space) }
-    requires atoms { lemma.now.atoms ≡ length state.now.lits }
-    ensures { result ≡ covers (lemma_of lemma.now) (state_of state.now) }
-{
-    state.space.within(&lemma.space) && marks_cover(lemma, &state.lits)
 }

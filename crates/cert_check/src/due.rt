@@ -1,4 +1,5 @@
 // What is due in a certificate.
+use crate::lemmas::Lemmas;
 use crate::loosenings::Loosenings;
 use crate::pending::Pending;
 use crate::standing::Lemma;
@@ -11,7 +12,7 @@ pub struct Cover {
     pub loosenings: Loosenings,
     /// How many lemmas the header tells.
     pub count: u32,
-    pub lemmas: Vec<Lemma>,
+    pub lemmas: Lemmas,
 }
 
 /// The states of a tree that are in work.
@@ -28,7 +29,7 @@ pub struct Tree {
 pub enum Value {
     Point(Space),
     /// The lemmas of a cover, and the number of its states that stay open or stuck.
-    Left(Vec<Lemma>, u64),
+    Left(Lemmas, u64),
 }
 
 /// What is due: the five lines of a header, then the lines of a cover or of a point. A space that is not whole has the

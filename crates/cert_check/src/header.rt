@@ -9,6 +9,7 @@ ghost use Rattle.cert_check.specs.declared.due.Due.TheVariants.{Version as Versi
 ghost use Rattle.cert_check.specs.Dues.{due_of, IsNext, IsNextAnywhere, IsNextAt, IsSound};
 
 use crate::due::{Cover, Due};
+use crate::lemmas::Lemmas;
 use crate::loosenings::Loosenings;
 use crate::refusal::Refusal;
 use cert_read::Line;
@@ -138,7 +139,7 @@ fn cover(alloc: Global, s: Loosenings, count: u32) -> Result<Due, Refusal>
     Ok(Due::Next(Cover {
         loosenings: s,
         count,
-        lemmas: Vec::new(alloc),
+        lemmas: Lemmas::new(alloc),
     }))
 }
 

@@ -9,7 +9,7 @@ ghost use Rattle.cert_check.specs.declared.due.Due.TheVariants.{Next as NextDue,
 ghost use Rattle.cert_check.specs.States.{Fits, lemma_of};
 ghost use Rattle.cert_check.specs.Faults.{IsLineRefusal};
 ghost use Rattle.cert_check.specs.Axis.{IsAxis};
-ghost use Rattle.cert_check.specs.Dues.{AllFit, begun_lemma, IsNext, IsNextOf, IsOutcome, IsSound, states_of, yes_of};
+ghost use Rattle.cert_check.specs.Dues.{AllFit, begun_lemma, IsNext, IsNextOf, IsOutcome, IsSound, yes_of};
 
 use crate::due::{Cover, Due, Tree};
 use crate::lists::{is_list, marks};
@@ -54,7 +54,7 @@ fn main_tree(_problem: &Problem, cover: Cover) -> Result<Due, Refusal>
 
 // A line of a tree after the trees that are complete.
 fn after_trees(cover: &Cover) -> Refusal
-    ensures { IsLineRefusal result (faulty (extra_after (states_of cover.now.lemmas.items))) }
+    ensures { IsLineRefusal result (faulty (extra_after cover.now.lemmas)) }
 {
     if cover.lemmas.is_empty() {
         Refusal::Missing
@@ -171,7 +171,7 @@ pub fn axis_line(
 fn lemma_tree(alloc: Global, cover: Cover, lemma: Lemma, lits: Lits) -> Result<Due, Refusal>
     requires { lits ≡ (lemma_of lemma).marks }
     ensures comes { (p : Parts) → IsOutcome p result (begun_lemma cover lemma) }
-    ensures sound { (p : Parts) → AllFit p cover.lemmas.items → Fits p (lemma_of lemma) →
+    ensures sound { (p : Parts) → AllFit p cover.lemmas → Fits p (lemma_of lemma) →
         IfOk result (IsSound p) }
 {
     let space = lemma.space.try_clone(alloc)?;
@@ -214,17 +214,5 @@ pub fn no_line(
             }
         }
         _ => Err(Refusal::Missing),
-    }
-}
-
-impl Lemma {
-    /// The marks of its state.
-    pub fn marks(&self, alloc: Global) -> Result<Lits, AllocError>
-        ensures { IfOk result (λ m. m ≡ (lemma_of self.now).marks) }
-    {
-        match marks(alloc, self.atoms, &self.yes, &self.no)? {
-            Some(marks) => Ok(marks),
-            None => unreachable!(),
-        }
     }
 }

@@ -1,19 +1,20 @@
 // The rules that leave one state.
-ghost use Rattle.std.specs.Prelude.{◌≡◌, ◌<◌, [], length, map, All};
+ghost use Rattle.std.specs.Prelude.{◌≡◌, ◌<◌, [], length, IfOk};
 ghost use Rattle.cover_model.specs.Rules.{unit, ban, can_push, lemma_covers};
 ghost use Rattle.cover_model.specs.State.{Loosenings as StateLoosenings};
 ghost use Rattle.poly_graph.specs.ProblemViews.{problem_of};
-ghost use Rattle.cert_check.specs.States.{state_of, lemma_of, loosenings_of, Fits};
+ghost use Rattle.cert_check.specs.States.{state_of, loosenings_of, Fits};
+ghost use Rattle.cert_check.specs.Dues.{AllFit};
 ghost use Rattle.cert_check.specs.Steps.{IsLeftBy};
 ghost use Rattle.cert_check.specs.Serving.{Serves};
 
-use crate::covering::covers;
 use crate::left::Left;
+use crate::lemmas::Lemmas;
 use crate::loosenings::Loosenings;
-use crate::standing::Lemma;
 use crate::state::State;
 use crate::tools::{Tools, is_inequality};
 use poly_graph::{Mark, Problem};
+use std::alloc::{AllocError, Global};
 
 /// Whether the lines of version 2 are read, and the atom is marked no and is an inequality.
 pub fn can_push(problem: &Problem, s: Loosenings, state: &State, j: u32) -> bool
@@ -52,31 +53,44 @@ pub fn unit(
 }
 
 /// Whether the lemma of this number covers the state.
-pub fn lemma_covers(_problem: &Problem, lemmas: &[Lemma], i: u32, state: &State) -> bool
-    requires lemmas { All (λ L. Fits _problem.now (lemma_of L)) lemmas.now }
+pub fn lemma_covers(
+    alloc: Global,
+    _problem: &Problem,
+    lemmas: &Lemmas,
+    i: u32,
+    state: &State,
+) -> Result<bool, AllocError>
+    requires lemmas { AllFit _problem.now lemmas.now }
     requires fits { Fits _problem.now (state_of state.now) }
-    ensures { result ≡ lemma_covers (map lemma_of lemmas.now) i (state_of state.now) }
+    ensures { IfOk result (λ t. t ≡ lemma_covers lemmas.now i (state_of state.now)) }
 {
-    let i = i as usize;
-    i < lemmas.len() && covers(&lemmas[i], state)
+    lemmas.covers(alloc, i, state)
 }
 
 /// The atom marked no, where the lemma covers the state with the atom marked yes.
 #[tactic(auto, using(crate::proofs::OneMark::ban_one))]
-pub fn ban(problem: &Problem, lemmas: &[Lemma], state: State, j: u32, i: u32) -> Option<Left>
-    requires lemmas { All (λ L. Fits problem.now (lemma_of L)) lemmas.now }
+pub fn ban(
+    alloc: Global,
+    problem: &Problem,
+    lemmas: &Lemmas,
+    state: State,
+    j: u32,
+    i: u32,
+) -> Result<Option<Left>, AllocError>
+    requires lemmas { AllFit problem.now lemmas.now }
     requires fits { Fits problem.now (state_of state) }
     requires atom { j < length problem.now.atoms }
-    ensures { (s : StateLoosenings) → IsLeftBy (ban j i) problem.now s lemmas.now state result }
+    ensures { (s : StateLoosenings) →
+        IfOk result (IsLeftBy (ban j i) problem.now s lemmas.now state) }
 {
     if !state.undecided(j) {
-        return None;
+        return Ok(None);
     }
     let mut state = state;
     state.lits.set(j, Mark::Yes);
-    if !lemma_covers(problem, lemmas, i, &state) {
-        return None;
+    if !lemma_covers(alloc, problem, lemmas, i, &state)? {
+        return Ok(None);
     }
     state.lits.set(j, Mark::No);
-    Some(Left::One(state))
+    Ok(Some(Left::One(state)))
 }

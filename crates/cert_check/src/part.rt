@@ -1,21 +1,21 @@
 // The part of a certificate that is in work.
-ghost use Rattle.std.specs.Prelude.{◌≡◌, ◌<◌, ◌-◌, ◌^◌, true, suc, length, map, Some, IfOk};
+ghost use Rattle.std.specs.Prelude.{◌≡◌, ◌<◌, ◌-◌, ◌^◌, true, suc, length, Some, IfOk};
 ghost use Rattle.poly_graph.specs.ProblemViews.{problem_of};
-ghost use Rattle.cover_model.specs.Carried.{carried, GoesOnFrom};
+ghost use Rattle.cover_model.specs.Carried.{GoesOnFrom};
 ghost use Rattle.cert_model.specs.Session.{kept_by};
 ghost use Rattle.cert_read.specs.Views.{line_of};
 ghost use Rattle.cert_check.specs.declared.due.Due.TheVariants.{Nothing as NothingDue};
-ghost use Rattle.cert_check.specs.Dues.{AllFit, IsNextAt, IsSound, due_of, lemmas_of, states_of, value_of};
+ghost use Rattle.cert_check.specs.Dues.{AllFit, IsNextAt, IsSound, due_of, lemmas_of, value_of};
 ghost use Rattle.cert_check.specs.Stays.{stays_in};
 ghost use Rattle.cert_check.specs.Work.{brief};
-ghost use Rattle.cert_check.specs.Works.{AreSameChecks, CanBeKept, IsBehind, IsFirst, IsInside, IsPart, IsPlace, IsSoundWork, IsSpent, IsTooled, checks_from, outcome_value};
+ghost use Rattle.cert_check.specs.Works.{AreSameChecks, IsBehind, IsFirst, IsInside, IsPart, IsPlace, IsSoundWork, IsSpent, IsTooled, checks_from, outcome_value};
 
 use crate::due::{Due, Value};
+use crate::lemmas::Lemmas;
 use crate::loosenings::Loosenings;
 use crate::names::is_crossed_box;
 use crate::next::next;
 use crate::refusal::Refusal;
-use crate::standing::Lemma;
 use crate::tools::Tools;
 use crate::work::Work;
 use cert_read::Line;
@@ -41,34 +41,33 @@ pub struct Part<'a> {
     pub number: usize,
     pub problem: Problem,
     pub tools: Tools,
-    /// The lemmas of the part before that may be kept, until `keep`, as they were there.
-    pub may_keep: Vec<Lemma>,
+    /// The lemmas of the part before that may be kept, as those of the problem, until `keep`.
+    pub may_keep: Lemmas,
     /// What the parts before stand for.
     pub values: Vec<Outcome>,
 }
 
-// The lemmas of a cover that one of the next check's problem may keep, where all commands of the check are in force at
-// the next one, or not: all or none.
-#[tactic(auto, using(crate::proofs::PartEnds::keeps_all, crate::proofs::PartEnds::keeps_none, crate::proofs::PartEnds::kept_none))]
+// The lemmas of a cover that one of the next check's problem may keep, as lemmas of that problem, where all commands of
+// the check are in force at the next one, or not: all or none.
+#[tactic(auto, using(crate::proofs::PartEnds::keeps_all, crate::proofs::PartEnds::keeps_none))]
 fn to_keep(
     alloc: Global,
     extends: bool,
     before: &Problem,
     problem: &Problem,
-    lemmas: Vec<Lemma>,
-) -> Vec<Lemma>
-    requires lemmas { AllFit before.now lemmas.items }
+    lemmas: Lemmas,
+) -> Result<Lemmas, AllocError>
+    requires lemmas { AllFit before.now lemmas }
     requires goes_on { extends ≡ true →
         GoesOnFrom (problem_of before.now) (problem_of problem.now) }
-    ensures states { map (carried (problem_of problem.now)) (states_of result.items)
-        ≡ kept_by extends (problem_of before.now) (states_of lemmas.items)
-        (problem_of problem.now) }
-    ensures can { CanBeKept problem.now result.items }
+    ensures states { IfOk result (λ v. v
+        ≡ kept_by extends (problem_of before.now) lemmas (problem_of problem.now)) }
+    ensures fit { IfOk result (AllFit problem.now) }
 {
     if extends && !is_crossed_box(before) && !is_crossed_box(problem) {
-        lemmas
+        lemmas.carried(alloc, problem)
     } else {
-        Vec::new(alloc)
+        Ok(Lemmas::new(alloc))
     }
 }
 
@@ -78,12 +77,12 @@ fn next_part(
     part: &mut Part<'_>,
     session: &Session,
     s: Loosenings,
-    lemmas: Vec<Lemma>,
+    lemmas: Lemmas,
 ) -> Result<Work, AllocError>
     requires part { IsPart part.old }
     requires session { part.old.session ≡ Some session }
-    requires lemmas { AllFit part.old.problem lemmas.items }
-    ensures comes { IfOk result (IsBehind part.old s lemmas.items part.new) }
+    requires lemmas { AllFit part.old.problem lemmas }
+    ensures comes { IfOk result (IsBehind part.old s lemmas part.new) }
     ensures part { IsPart part.new }
     ensures sound { IfOk result (IsSoundWork part.new) }
     ensures checks { AreSameChecks part.old part.new }
@@ -96,7 +95,7 @@ fn next_part(
     let problem = session.next(alloc, part.number, &part.problem)?;
     let tools = Tools::new(alloc, &problem)?;
     let extends = session.extends(number);
-    let kept = to_keep(alloc, extends, &part.problem, &problem, lemmas);
+    let kept = to_keep(alloc, extends, &part.problem, &problem, lemmas)?;
     part.number = number;
     drop(mem::replace(&mut part.problem, problem));
     drop(mem::replace(&mut part.tools, tools));
@@ -106,12 +105,12 @@ fn next_part(
 
 // What a part stands for, and the lemmas of its cover.
 #[tactic(auto, using(crate::proofs::Leans::length_blanks))]
-fn parted(alloc: Global, value: Value) -> (Outcome, Vec<Lemma>)
+fn parted(alloc: Global, value: Value) -> (Outcome, Lemmas)
     ensures outcome { outcome_value result.0 ≡ brief (value_of value) }
-    ensures lemmas { result.1.items ≡ lemmas_of value }
+    ensures lemmas { result.1 ≡ lemmas_of value }
 {
     match value {
-        Value::Point(_) => (Outcome::Point, Vec::new(alloc)),
+        Value::Point(_) => (Outcome::Point, Lemmas::new(alloc)),
         Value::Left(lemmas, stayed) => (Outcome::Left(stayed), lemmas),
     }
 }
@@ -172,7 +171,7 @@ impl<'a> Part<'a> {
             number: 0,
             problem,
             tools,
-            may_keep: Vec::new(alloc),
+            may_keep: Lemmas::new(alloc),
             values: Vec::new(alloc),
         })
     }
@@ -209,10 +208,10 @@ impl<'a> Part<'a> {
     }
 
     /// The lemmas of the part before, which are not held any more.
-    pub fn take_lemmas(&mut self, alloc: Global) -> Vec<Lemma>
+    pub fn take_lemmas(&mut self, alloc: Global) -> Lemmas
         ensures lemmas { result ≡ self.old.may_keep }
         ensures same { IsSpent self.old self.new }
     {
-        mem::replace(&mut self.may_keep, Vec::new(alloc))
+        mem::replace(&mut self.may_keep, Lemmas::new(alloc))
     }
 }

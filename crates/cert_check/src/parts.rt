@@ -11,7 +11,6 @@ ghost use Rattle.cert_check.specs.Works.{AreSameChecks, IsFirst, IsInHeader, IsN
 
 use crate::due::{Cover, Due};
 use crate::header::{MOST_LEMMAS, point};
-use crate::keep::carried;
 use crate::lemma::next_line;
 use crate::loosenings::Loosenings;
 use crate::part::{Part, inside};
@@ -182,7 +181,6 @@ fn kept(
     }
     let mut lemmas = part.take_lemmas(alloc);
     lemmas.truncate(keep as usize);
-    let lemmas = carried(alloc, &part.problem, lemmas)?;
     Ok(Work::First(Cover {
         loosenings: s,
         count,

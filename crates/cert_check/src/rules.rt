@@ -1,19 +1,20 @@
 // The rules of a tree.
-ghost use Rattle.std.specs.Prelude.{All, IfOk, IsTrue};
+ghost use Rattle.std.specs.Prelude.{IfOk, IsTrue};
 ghost use Rattle.poly_graph.specs.ProblemViews.{problem_of};
 ghost use Rattle.cover_line.specs.Views.{line_of as rule_of};
 ghost use Rattle.cert_model.specs.Due.{names_well};
-ghost use Rattle.cert_check.specs.States.{state_of, lemma_of, loosenings_of, Fits};
+ghost use Rattle.cert_check.specs.States.{state_of, loosenings_of, Fits};
+ghost use Rattle.cert_check.specs.Dues.{AllFit};
 ghost use Rattle.cert_check.specs.Steps.{IsLeftBy};
 ghost use Rattle.cert_check.specs.Serving.{Serves};
 
 use crate::branches::{case, cut, flip, stuck};
 use crate::closing::{by, make_false};
 use crate::left::Left;
+use crate::lemmas::Lemmas;
 use crate::loosenings::Loosenings;
 use crate::moves::{ban, unit};
 use crate::narrowing::{Narrowing, emptied, narrowed};
-use crate::standing::Lemma;
 use crate::state::State;
 use crate::tools::Tools;
 use cover_line::{AtomRule, CombinationRule, Rule};
@@ -26,12 +27,12 @@ pub fn rule(
     problem: &Problem,
     tools: &mut Tools,
     s: Loosenings,
-    lemmas: &[Lemma],
+    lemmas: &Lemmas,
     state: State,
     step: &Rule,
 ) -> Result<Option<Left>, AllocError>
     requires serves { Serves problem.now tools.old }
-    requires lemmas { All (λ L. Fits problem.now (lemma_of L)) lemmas.now }
+    requires lemmas { AllFit problem.now lemmas.now }
     requires fits { Fits problem.now (state_of state) }
     requires names { IsTrue (names_well (problem_of problem.now) (rule_of step.now)) }
     ensures rule { IfOk result
@@ -60,8 +61,8 @@ pub fn rule(
         Rule::Combination(CombinationRule::VoidCombine, pairs) => {
             Ok(emptied(problem, tools, s, state, Narrowing::Combination(pairs)))
         }
-        Rule::Ban(j, i) => Ok(ban(problem, lemmas, state, *j, *i)),
-        Rule::By(i) => Ok(by(problem, lemmas, state, *i)),
+        Rule::Ban(j, i) => ban(alloc, problem, lemmas, state, *j, *i),
+        Rule::By(i) => by(alloc, problem, lemmas, state, *i),
         Rule::Cut(axis, place) => cut(alloc, state, *axis, *place),
         Rule::Flip(axis) => flip(alloc, state, *axis),
         Rule::False => Ok(make_false(problem, tools, s, state)),

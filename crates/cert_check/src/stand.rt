@@ -9,8 +9,8 @@ ghost use Rattle.cert_check.specs.Stands.{stand_of, whole_cover_of};
 ghost use Rattle.cert_check.specs.Works.{work_of};
 
 use crate::due::{Due, Value};
+use crate::lemmas::Lemmas;
 use crate::loosenings::Loosenings;
-use crate::standing::Lemma;
 use crate::work::Work;
 use ival::Space;
 use poly_graph::Lits;
@@ -32,7 +32,7 @@ pub struct WholeCover<'a> {
     /// Its margin, its delta and its version.
     pub loosenings: &'a Loosenings,
     /// The states of its lemmas.
-    pub lemmas: &'a [Lemma],
+    pub lemmas: &'a Lemmas,
 }
 
 // Where the next line stands, where this is due.

@@ -1,4 +1,4 @@
-// The states of lemmas.
+// Lemmas as they are written.
 ghost use Rattle.std.specs.Prelude.{◌≡◌, true, IsTrue};
 ghost use Rattle.cert_model.specs.Due.{all_below, apart};
 

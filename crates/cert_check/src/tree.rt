@@ -1,11 +1,12 @@
 // The lines of trees.
-ghost use Rattle.std.specs.Prelude.{◌≡◌, ◌<◌, ◌-◌, ◌^◌, ◌++◌, IfOk, IsTrue, Some};
+ghost use Rattle.std.specs.Prelude.{◌≡◌, ◌<◌, ◌-◌, ◌^◌, ◌++◌, All, IfOk, IsTrue, Some};
 ghost use Rattle.cover_line.specs.Views.{line_of as rule_of, rule_word};
 ghost use Rattle.cert_read.specs.CertLine.{rule_line};
 ghost use Rattle.cert_read.specs.Views.{line_of};
 ghost use Rattle.cert_model.specs.Due.{CertFault as Fault, names_well, Standing, RuleFails};
 ghost use Rattle.poly_graph.specs.ProblemViews.{Parts, problem_of};
 ghost use Rattle.cert_check.specs.declared.due.Due.TheVariants.{End as EndDue, Lemma as LemmaDue, Root as RootDue, Tree as TreeDue};
+ghost use Rattle.cert_check.specs.States.{IsLike, lemma_of};
 ghost use Rattle.cert_check.specs.Steps.{left_of};
 ghost use Rattle.cert_check.specs.Within.{IsStepInTree};
 ghost use Rattle.cert_check.specs.Serving.{Serves};
@@ -96,7 +97,7 @@ fn main_left(
     requires { stayed < 2 ^ 64 - 1 }
     ensures comes { (p : Parts) (f : Fault) (x : Standing) →
         IsOutcome p result (after_main_rule cover pending stayed (left_of left) f x) }
-    ensures sound { IsSoundBehind cover.lemmas.items pending left result }
+    ensures sound { IsSoundBehind cover.lemmas pending left result }
 {
     let stayed = count_stays(stayed, &left);
     match leave(alloc, pending, left)? {
@@ -106,7 +107,7 @@ fn main_left(
 }
 
 // What is due in a lemma's tree after a rule of this word of which this is left.
-#[tactic(auto, using(crate::proofs::Waits::lemma_done, crate::proofs::Waits::lemma_on, crate::proofs::Waits::lemma_stays, crate::proofs::Waits::states_more))]
+#[tactic(auto, using(crate::proofs::Waits::lemma_done, crate::proofs::Waits::lemma_on, crate::proofs::Waits::lemma_stays, crate::proofs::Carried::one_fits_more))]
 fn lemma_left(
     alloc: Global,
     cover: Cover,
@@ -115,9 +116,10 @@ fn lemma_left(
     left: Left,
     word: Word,
 ) -> Result<Due, Refusal>
+    requires { All (IsLike (lemma_of lemma)) cover.lemmas }
     ensures comes { (p : Parts) → IsOutcome p result (after_rule_of_lemma cover lemma
         pending (left_of left) (RuleFails (rule_word word))) }
-    ensures sound { IsSoundInLemma cover.lemmas.items lemma pending left result }
+    ensures sound { IsSoundInLemma cover.lemmas lemma pending left result }
 {
     if is_stays(&left) {
         return Err(Refusal::RuleFails(word));

@@ -15,4 +15,4 @@ returns-in-Some-clause-comes c =
     let t = c.args.part.now in
     if_ok c.next_part.result (λ w h.
     not_only c.args.s t.problem c.args.value t.values.items c.push.new.self.items c.parted-outcome.result.0 c.in_ok-push.ensures.items c.parted-outcome.ensures.outcome (checks_from t.session (suc t.number))
-    c.parted-outcome.result.1.items c.parted-outcome.ensures.lemmas ∙ h) c.next_part.ensures.comes
+    c.parted-outcome.result.1 c.parted-outcome.ensures.lemmas ∙ h) c.next_part.ensures.comes
