@@ -84,7 +84,7 @@ fn stored(
 }
 
 // The states of lemmas.
-#[tactic(auto, using(crate::proofs::Taken::one_more_taken, crate::proofs::Taken::all_taken))]
+#[tactic(auto, using(crate::proofs::Taken::all_taken))]
 fn states_of(alloc: Global, lemmas: &Lemmas) -> Result<Vec<StoredState>, AllocError>
     ensures { IfOk result (λ v. v.items ≡ lemmas.now) }
 {
