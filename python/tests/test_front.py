@@ -11,11 +11,18 @@ from pathlib import Path
 FRONT = str(Path(__file__).resolve().parent.parent / "dpoly-smt")
 
 
+def heed_interrupts():
+    signal.signal(signal.SIGINT, signal.SIG_DFL)
+
+
 class Client:
     """A client that writes a command and reads the answer, line by line, and gives up after five minutes."""
 
     def __init__(self, *words):
-        self.process = subprocess.Popen([FRONT, *words], stdin=subprocess.PIPE, stdout=subprocess.PIPE, bufsize=0)
+        # (a test that runs in the background of a shell ignores interrupts, and so would the front)
+        self.process = subprocess.Popen(
+            [FRONT, *words], stdin=subprocess.PIPE, stdout=subprocess.PIPE, bufsize=0, preexec_fn=heed_interrupts
+        )
         self.read = b""
 
     def send(self, text):
