@@ -2,7 +2,7 @@
 """Measures how the library `coq/` replays certificates (docs/COQ.md).
 
     bench/coq.py LIBRARY CERTIFICATES [--arithmetics Big,Prim] [--most LINES] [--jobs N]
-                 [--page --program DPOLY] [NAME ..]
+                 [--page --program DPOLY [--commit C]] [NAME ..]
 
 LIBRARY is `coq/theories` after `make -C coq`. CERTIFICATES is a folder with pairs NAME.smt2 and
 NAME.cert, as bench/trim.py makes one. A row is printed for each: lines of the certificate, and user
@@ -116,20 +116,17 @@ def put(rows: List[Row], words: argparse.Namespace) -> None:
     whole = tables.markdown(['certificate', 'lines', 'command', *heads], list(map(cells_of, shown)))
     heads = ['arithmetic', 'replay', 'lines', 'longest', 'tactic, ms a line', '`coqc`, ms a line']
     all_of = tables.markdown(heads, list(sums(rows, words.arithmetics)))
-    run_on = tables.run_on(words.program, words.jobs, {})
+    run_on = tables.run_on(words, {})
     tables.put('COQ.md', {'replays-run': run_on, 'replays': whole, 'replays-sum': all_of})
 
 
 def main() -> None:
     parser = argparse.ArgumentParser(
         description=__doc__, formatter_class=argparse.RawDescriptionHelpFormatter)
-    parser.add_argument('library')
+    tables.add_words(parser)
     parser.add_argument('certificates')
     parser.add_argument('--arithmetics', type=lambda it: it.split(','), default=['Big', 'Prim'])
     parser.add_argument('--most', type=int, default=10**9)
-    parser.add_argument('--jobs', type=int, default=1)
-    parser.add_argument('--page', action='store_true')
-    parser.add_argument('--program', default='')
     parser.add_argument('names', nargs='*')
     words = parser.parse_intermixed_args()
     found = [it[:-5] for it in os.listdir(words.certificates) if it.endswith('.cert')]

@@ -2,7 +2,7 @@
 """Twenty goals by the tactics that users of Coq have, and by certificates (docs/COQ.md).
 
     bench/coq_tactics.py LIBRARY [--tactics dpoly,interval,nra,psatz,gappa] [--program DPOLY]
-                         [--seconds S] [--jobs N] [--page] [NAME ..]
+                         [--commit C] [--seconds S] [--jobs N] [--page] [NAME ..]
 
 LIBRARY is `coq/theories` after `make -C coq`. The goals are theorems written from scripts,
 `hypotheses -> conclusion`, where the last assertion is denied as the conclusion. A row of the
@@ -400,12 +400,9 @@ def proved(rows: List[List[str]]) -> List[str]:
 def main() -> None:
     parser = argparse.ArgumentParser(
         description=__doc__, formatter_class=argparse.RawDescriptionHelpFormatter)
-    parser.add_argument('library')
+    tables.add_words(parser)
     parser.add_argument('--tactics', default=','.join(TACTICS))
-    parser.add_argument('--program')
     parser.add_argument('--seconds', type=float, default=30)
-    parser.add_argument('--jobs', type=int, default=1)
-    parser.add_argument('--page', action='store_true')
     parser.add_argument('names', nargs='*')
     words = parser.parse_intermixed_args()
     tactics = [it for it in words.tactics.split(',') if it != 'dpoly' or words.program]
@@ -414,8 +411,7 @@ def main() -> None:
         rows.append(row)
         print('|', ' | '.join(row), '|', flush=True)
     if words.page:
-        run_on = tables.run_on(words.program or words.library, words.jobs,
-                               {'stopped after': f'{words.seconds:g} s'})
+        run_on = tables.run_on(words, {'stopped after': f'{words.seconds:g} s'})
         whole = tables.markdown(rows[0], [*rows[1:], proved(rows)])
         tables.put('COQ.md', {'tactics-run': run_on, 'tactics': whole})
 

@@ -1,6 +1,7 @@
 """Tables of the pages in docs/: each stands right behind the line `<!-- table: NAME -->`."""
 from __future__ import annotations
 
+import argparse
 import os
 import re
 from typing import Sequence
@@ -16,12 +17,21 @@ def markdown(head: Sequence[str], rows: Sequence[Sequence[str]]) -> str:
     return '\n'.join([*lines, *('| ' + ' | '.join(row) + ' |' for row in rows)])
 
 
-def run_on(program: str, jobs: int, more: dict[str, str]) -> str:
+def add_words(parser: argparse.ArgumentParser) -> None:
+    """The words of a script that measures Coq and puts tables into its page."""
+    parser.add_argument('library')
+    parser.add_argument('--program', default='')
+    parser.add_argument('--commit', default='', help='of DPOLY, where its folder does not tell')
+    parser.add_argument('--jobs', type=int, default=1)
+    parser.add_argument('--page', action='store_true')
+
+
+def run_on(words: argparse.Namespace, more: dict[str, str]) -> str:
     """What was measured when, on which machine, with which program, with how many processes side
-    by side and beside which load."""
-    about = results.machine(program)
+    by side and beside which load, by the words that `add_words` adds."""
+    about = results.machine(words.program or words.library, words.commit)
     cells = {'date': about['date'], 'machine': about['machine'], 'load before': f'{LOAD:.1f}',
-             'side by side': str(jobs), '`dpoly` of commit': about['commit'], **more}
+             'side by side': str(words.jobs), '`dpoly` of commit': about['commit'], **more}
     return markdown(list(cells), [list(cells.values())])
 
 
