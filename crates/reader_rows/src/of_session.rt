@@ -227,7 +227,7 @@ fn same_problem(p: &Problem, q: &Problem) -> bool {
 }
 
 // Scripts with levels, and what is in force at their last check, written without.
-const STACKED: [(&str, &str); 30] = [
+const STACKED: [(&str, &str); 31] = [
     (
         "(push 1)(assert true)(pop 1)(assert false)(check-sat)",
         "(assert false)(check-sat)",
