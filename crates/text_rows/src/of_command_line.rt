@@ -54,7 +54,7 @@ const REFUSED: [&str; 64] = [
     "dpoly join s o a",
     "dpoly join s o - a",
     "dpoly join s o a b -",
-    "dpoly join s o a b --bound 8",
+    "dpoly join s o a b --bound 0",
     "dpoly join s o a b --part 1/1",
     "dpoly join s o a b --list l",
     "dpoly join --help",
@@ -112,14 +112,15 @@ const USUAL: Options = Options {
     bound: None,
 };
 
-// What is asked: for `join` the names of the script, of the certificate that is written and of those that are read.
+// What is asked: for `join` the names of the script, of the certificate that is written and of those that are read, and
+// the bound.
 #[derive(Clone, Copy)]
 enum Asked {
     Solve(SolveWords<'static>),
     Check(CheckWords<'static>),
     Upgrade(UpgradeWords<'static>),
     Demo(DemoWords<'static>),
-    Join(&'static str, &'static str, &'static [&'static str]),
+    Join(&'static str, &'static str, &'static [&'static str], Option<u32>),
 }
 
 const ASKED: &[(&str, Asked)] = &[
@@ -242,18 +243,25 @@ const ASKED: &[(&str, Asked)] = &[
             },
         }),
     ),
-    ("dpoly join s o a b", Asked::Join("s", "o", &["a", "b"])),
+    (
+        "dpoly join s o a b",
+        Asked::Join("s", "o", &["a", "b"], None),
+    ),
+    (
+        "dpoly join s o a b --bound 8",
+        Asked::Join("s", "o", &["a", "b"], Some(8)),
+    ),
     (
         "dpoly join - - a a a",
-        Asked::Join("-", "-", &["a", "a", "a"]),
+        Asked::Join("-", "-", &["a", "a", "a"], None),
     ),
     (
         "dpoly join s -- -o -a --",
-        Asked::Join("s", "-o", &["-a", "--"]),
+        Asked::Join("s", "-o", &["-a", "--"], None),
     ),
     (
         "dpoly join s o a b c d -- e --list -a",
-        Asked::Join("s", "o", &["a", "b", "c", "d", "e", "--list", "-a"]),
+        Asked::Join("s", "o", &["a", "b", "c", "d", "e", "--list", "-a"], None),
     ),
 ];
 
@@ -264,8 +272,11 @@ fn is_asked(found: &Request<'_>, asked: &Asked) -> bool {
         (Request::Check(found), Asked::Check(asked)) => found == asked,
         (Request::Upgrade(found), Asked::Upgrade(asked)) => found == asked,
         (Request::Demo(found), Asked::Demo(asked)) => found == asked,
-        (Request::Join(found), Asked::Join(script, out, certs)) => {
-            found.script == *script && found.out == *out && found.certs.as_slice() == *certs
+        (Request::Join(found), Asked::Join(script, out, certs, bound)) => {
+            found.script == *script
+                && found.out == *out
+                && found.certs.as_slice() == *certs
+                && found.bound == *bound
         }
         _ => false,
     }
