@@ -10,7 +10,8 @@ use Rattle.cover_model.specs.Derivation.{tree_lines}
 use Rattle.cert_model.specs.Written.{rule_lines}
 use Rattle.cert_read.specs.CertLine.{CertLine}
 use Rattle.cert_read.specs.LineText.{line_text, IsSpelled}
-use Rattle.cert_joined.specs.Covers.{Cover, Lemma, IsTextOf, AreTextsOf, state_lines, lemma_lines, lemmas_lines}
+use Rattle.cert_joined.specs.Crowded.{IsCrowded}
+use Rattle.cert_joined.specs.Covers.{Cover, Lemma, IsLemmaAt, IsTextOf, AreTextsOf, state_lines, lemma_lines, lemmas_lines}
 use Rattle.cert_join.specs.declared.cursor.Mark.{Mark}
 use Rattle.cert_join.specs.declared.joiner.Step.{Step}
 use Rattle.cert_join.specs.declared.joiner.Step.TheVariants.{Read, On, Over}
@@ -21,8 +22,8 @@ use Rattle.cert_join.specs.declared.numbering.Known.{Known}
 use Rattle.cert_join.specs.declared.numbering.Numbering.{Numbering}
 use Rattle.cert_join.specs.Ahead.{AreBefore}
 use Rattle.cert_join.specs.Spot.{Spot, IsBefore, IsFirst, IsMark, IsNext, line_in, rewound}
-use Rattle.cert_join.specs.Written.{texts_of, behind_header}
-use Rattle.cert_join.specs.Numbered.{line_kind, IsKnown, HaveNumbers, AllHaveNumbers, IsAt, IsBetween, tail_lines, TakesLine, TakesNext, EndsPart, IsMarked, IsReadingPart, IsPartRead, StaysInPart, ReadsPart, lists_of, around, IsResting, IsWithin, IsNumbering, AreNumbered, ReadsLemmas}
+use Rattle.cert_join.specs.Written.{texts_of, behind_header, written_from}
+use Rattle.cert_join.specs.Numbered.{line_kind, IsKnown, HaveNumbers, AllHaveNumbers, IsAt, IsBetween, tail_lines, TakesLine, TakesNext, EndsPart, IsMarked, IsReadingPart, IsPartCrowded, IsPartRead, StaysInPart, ReadsPart, lists_of, around, IsResting, IsWithin, IsNumbering, AreNumbered, AreNumberedOrMany, ReadsLemmas}
 use Rattle.cert_join.proofs.AllNumbers.{AreStatesSpelled, are_all_lemmas, all_counted, all_long, all_many}
 use Rattle.cert_join.proofs.Headers.{text_at, take_whole}
 use Rattle.cert_join.proofs.Spots.{before_again, before_same}
@@ -126,10 +127,11 @@ pub reads_next : (cert : List ℕ) (before : List (List ℕ)) (c : Cover) (old n
     IsTextOf c cert → (r : IsReadingPart cert before c old s) → (old.mark ≡ Some m) ⊎ ((old.mark ≡ None) × IsMark s m) → s' ≡ record s { size = s'.size } →
     IsNext (texts_of r.ls) s' (Ok true) →
     ((l : CertLine) → line_in s' ≡ Some (line_text l) → TakesNext (line_kind l) (line_text l) (marked old m) (Ok (Some found)) new) →
+    new.known.count ≤ 1048576 →
     (found ≡ TreeKind → s'' ≡ rewound m) →
     ((found ≡ TreeKind → ⊥) → (cert l : List ℕ) (ls : List (List ℕ)) → IsBefore cert (l ∷ ls) s' → line_in s' ≡ Some l → IsBefore cert ls s'') →
     StaysInPart cert before c old new s'' ⊎ IsPartRead cert before c old new s''
-reads_next cert before c old new s s' s'' m found t r k same n take back on =
+reads_next cert before c old new s s' s'' m found t r k same n take few' back on =
     let x = next_line r.ls n.0 n.2 in
     let has : line_in s' ≡ Some (line_text x.l) = n.1 ∙ ap Some x.text in
     let at = subst (IsAt old.is_in_state before c old.state.items old.own.items r.known) x.here r.at in
@@ -146,11 +148,41 @@ reads_next cert before c old new s s' s'' m found t r k same n take back on =
         StaysInPart cert before c old new s'' ⊎ IsPartRead cert before c old new s''
     go TreeKind l rest at behind b has k back on = inr (read_tree cert before c old new s'' m l rest r.known r.is_known r.few at behind k.0 k.1 (back refl))
     go LemmaKind l rest at behind b has k back on =
-        inl (read_line cert before c old new s' s'' m l rest r.known t.boxes r.is_known r.few at behind k.0 k.1 k.2 (on lemma_not_tree cert (line_text l) (texts_of rest) b has))
+        inl (read_line cert before c old new s' s'' m l rest r.known t.boxes r.is_known r.few at behind k.0 k.1 few' (on lemma_not_tree cert (line_text l) (texts_of rest) b has))
     go No l rest at behind b has k back on =
-        inl (read_line cert before c old new s' s'' m l rest r.known t.boxes r.is_known r.few at behind k.0 k.1 k.2 (on no_not_tree cert (line_text l) (texts_of rest) b has))
+        inl (read_line cert before c old new s' s'' m l rest r.known t.boxes r.is_known r.few at behind k.0 k.1 few' (on no_not_tree cert (line_text l) (texts_of rest) b has))
     go Other l rest at behind b has k back on =
-        inl (read_line cert before c old new s' s'' m l rest r.known t.boxes r.is_known r.few at behind k.0 k.1 k.2 (on other_not_tree cert (line_text l) (texts_of rest) b has))
+        inl (read_line cert before c old new s' s'' m l rest r.known t.boxes r.is_known r.few at behind k.0 k.1 few' (on other_not_tree cert (line_text l) (texts_of rest) b has))
+
+-- ---- too many lemmas
+
+crowded_at : (inside : Bool) (before : List (List ℕ)) (c : Cover) (new : Numbering) (state own : List ℕ) (known : List (List ℕ)) (ls : List CertLine) → IsAt inside before c state own known ls →
+    1048576 < length known → 1048576 < new.known.count → IsPartCrowded before c new
+crowded_at true before c new state own known ls h long many = record { first = h.done; others = h.now ∷ h.due; lemmas = h.lemmas; own = own; known = known; numbers = h.numbers; many = long; count = many }
+crowded_at false before c new state own known ls h long many = record { first = h.done; others = h.due; lemmas = h.lemmas; own = own; known = known; numbers = h.numbers; many = long; count = many }
+
+-- with this line there are too many
+pub reads_crowded : (cert : List ℕ) (before : List (List ℕ)) (c : Cover) (old new : Numbering) (s s' : Spot) (m : Mark) (found : Kind) →
+    IsTextOf c cert → (r : IsReadingPart cert before c old s) → IsNext (texts_of r.ls) s' (Ok true) →
+    ((l : CertLine) → line_in s' ≡ Some (line_text l) → TakesNext (line_kind l) (line_text l) (marked old m) (Ok (Some found)) new) →
+    1048576 < new.known.count → IsPartCrowded before c new
+reads_crowded cert before c old new s s' m found t r n take many =
+    let x = next_line r.ls n.0 n.2 in
+    let has : line_in s' ≡ Some (line_text x.l) = n.1 ∙ ap Some x.text in
+    go found x.l x.rest (subst (IsAt old.is_in_state before c old.state.items old.own.items r.known) x.here r.at) (take x.l has)
+  where
+    other : (l : CertLine) (rest : List CertLine) → IsAt old.is_in_state before c old.state.items old.own.items r.known (l ∷ rest) → line_kind l ≢ TreeKind →
+        TakesLine (line_kind l) (line_text l) (marked old m) new → IsPartCrowded before c new
+    other l rest at ne k =
+        let y = takes before c (marked old m) new l rest r.known old.is_in_state t.boxes r.is_known r.few k ne refl at in
+        crowded_at new.is_in_state before c new new.state.items new.own.items y.known rest y.at (omega (arith, many, y.is_known.count)) many
+
+    go : (found : Kind) (l : CertLine) (rest : List CertLine) → IsAt old.is_in_state before c old.state.items old.own.items r.known (l ∷ rest) →
+        TakesNext (line_kind l) (line_text l) (marked old m) (Ok (Some found)) new → IsPartCrowded before c new
+    go TreeKind l rest at k = let same = ap (λ (x : Known). x.count) k.1.known in absurd (omega (arith, many, same, r.few))
+    go LemmaKind l rest at k = other l rest at k.0 k.1
+    go No l rest at k = other l rest at k.0 k.1
+    go Other l rest at k = other l rest at k.0 k.1
 
 -- ---- numbers
 
@@ -295,6 +327,71 @@ turn_of certs covers before n spots d t h (inr w) =
           (subst (λ (x : Spot). IsReadingPart w.cert before w.cover n x) spot w.reading));
     }
 
+-- ---- states
+
+lemma_spelled : (i : ℕ) (xs : List Lemma) (k : ℕ) (x : Lemma) → AllByRecursion IsSpelled (lemmas_lines i xs) → slice_get xs k ≡ Some x → AllByRecursion IsSpelled (state_lines x)
+lemma_spelled i [] k x h e = absurd (none_some x e)
+lemma_spelled i (y ∷ xs) zero x h e =
+    let r = all_split IsSpelled (lemma_lines i y) (lemmas_lines (suc i) xs) h in
+    let q = all_split IsSpelled (state_lines y) (rule_lines (tree_lines y.tree)) r.0.1 in
+    subst (λ (z : Lemma). AllByRecursion IsSpelled (state_lines z)) (some_same y x e) q.0
+lemma_spelled i (y ∷ xs) (suc k) x h e =
+    let r = all_split IsSpelled (lemma_lines i y) (lemmas_lines (suc i) xs) h in lemma_spelled (suc i) xs k x r.1 e
+
+states_spelled : (covers : List Cover) (certs : List (List ℕ)) → AreTextsOf covers certs → AreStatesSpelled covers
+states_spelled covers certs t i k c x e g =
+    let a = text_at covers certs i c t e in
+    let h = all_split IsSpelled (lemmas_lines 0 c.lemmas) (tail_lines c) a.1.spelled.1.1.1.1.1 in
+    lemma_spelled 0 c.lemmas k x h.0 g
+
+-- ---- lemmas of covers that are cut off
+
+take_get : {X : Type 0} (xs : List X) (n i : ℕ) (x : X) → slice_get (take n xs) i ≡ Some x → slice_get xs i ≡ Some x
+take_get [] zero i x e = e
+take_get [] (suc n) i x e = e
+take_get (y ∷ xs) zero i x e = absurd (none_some x e)
+take_get (y ∷ xs) (suc n) zero x e = e
+take_get (y ∷ xs) (suc n) (suc i) x e = take_get xs n i x e
+
+front_get : {X : Type 0} (xs ys : List X) (n : ℕ) (x : X) → slice_get xs n ≡ Some x → slice_get (xs ++ ys) n ≡ Some x
+front_get [] ys n x e = absurd (none_some x e)
+front_get (y ∷ xs) ys zero x e = e
+front_get (y ∷ xs) ys (suc n) x e = front_get xs ys n x e
+
+-- a lemma of one of the first covers, or of the first lemmas of the next one, is one of theirs
+cut_lemma : (covers : List Cover) (part i k : ℕ) (c : Cover) (cut : Cover) (others : List Lemma) (x : Lemma) → slice_get covers part ≡ Some c → c.lemmas ≡ cut.lemmas ++ others →
+    IsLemmaAt (take part covers ++ (cut ∷ [])) i k x → IsLemmaAt covers i k x
+cut_lemma [] part i k c cut others x e f h = absurd (none_some c e)
+cut_lemma (d ∷ covers) zero zero k c cut others x e f h =
+    record {
+      cover = d;
+      covers_at = refl;
+      lemma_at = ap (λ (y : Cover). slice_get y.lemmas k) (some_same d c e) ∙ ap (λ (xs : List Lemma). slice_get xs k) f
+          ∙ front_get cut.lemmas others k x (ap (λ (y : Cover). slice_get y.lemmas k) (some_same cut h.cover h.covers_at) ∙ h.lemma_at);
+    }
+cut_lemma (d ∷ covers) zero (suc i) k c cut others x e f h = absurd (none_some h.cover h.covers_at)
+cut_lemma (d ∷ covers) (suc part) zero k c cut others x e f h = record { cover = h.cover; covers_at = h.covers_at; lemma_at = h.lemma_at }
+cut_lemma (d ∷ covers) (suc part) (suc i) k c cut others x e f h =
+    let r = cut_lemma covers part i k c cut others x e f (record { cover = h.cover; covers_at = h.covers_at; lemma_at = h.lemma_at }) in
+    record { cover = r.cover; covers_at = r.covers_at; lemma_at = r.lemma_at }
+
+crowded : (certs : List (List ℕ)) (covers : List Cover) (before : List (List ℕ)) (old new : Numbering) (spots : List Spot) (d : Spot) → AreTextsOf covers certs →
+    AllHaveNumbers [] (lists_of old) (take old.part covers) before → (a : IsTurn certs covers before old spots d) → IsPartCrowded before a.cover new → IsCrowded covers
+crowded certs covers before old new spots d t all a h =
+    let cut : Cover = record a.cover { lemmas = h.first } in
+    let xs : List Cover = take old.part covers ++ (cut ∷ []) in
+    let ns : List (List ℕ) = lists_of old ++ (h.own ∷ []) in
+    let numbers : AllHaveNumbers [] ns xs h.known = all_more [] before h.known (lists_of old) (take old.part covers) h.own cut all h.numbers in
+    let within = λ (i k : ℕ) (x : Lemma) (at : IsLemmaAt xs i k x). cut_lemma covers old.part i k a.cover cut h.others x a.covers_at h.lemmas at in
+    let spelled : AreStatesSpelled xs = λ i k c x e g. let at = within i k x (record { cover = c; covers_at = e; lemma_at = g }) in states_spelled covers certs t i k at.cover x at.covers_at at.lemma_at in
+    let r = are_all_lemmas ns xs h.known spelled numbers in
+    record {
+      lemmas = written_from 0 ns xs;
+      many = subst (λ (n : ℕ). 1048576 < n) (sym (all_counted ns xs h.known numbers)) h.many;
+      taken = λ n y e. let z = r.taken n y e in (z.0, z.1, z.2, within z.0 z.1 z.2 z.3, z.5);
+      once = r.once;
+    }
+
 -- ---- a step
 
 stays_on : (certs : List (List ℕ)) (covers : List Cover) (before : List (List ℕ)) (old new : Numbering) (spots : List Spot) (d s : Spot) →
@@ -345,32 +442,17 @@ part_read certs covers before old new spots d s all a h =
       });
     }
 
-pub numbers_on : (certs : List (List ℕ)) (covers : List Cover) (before : List (List ℕ)) (old : Numbering) (spots : List Spot) (d : Spot) (r : Result Step Unjoined) (new : Numbering) (s : Spot) →
+pub numbers_on : (certs : List (List ℕ)) (covers : List Cover) (before : List (List ℕ)) (old : Numbering) (spots : List Spot) (d : Spot) (r : Result Step Unjoined) (new : Numbering) (s : Spot) → AreTextsOf covers certs →
     AllHaveNumbers [] (lists_of old) (take old.part covers) before → (a : IsTurn certs covers before old spots d) → ReadsPart a.cert before a.cover old r new s →
     ReadsLemmas certs covers r new (slice_set spots old.part s)
-numbers_on certs covers before old spots d (Ok Over) new s all a h = absurd h
-numbers_on certs covers before old spots d (Ok (Read part)) new s all a (inl h) = stays_on certs covers before old new spots d s all a h
-numbers_on certs covers before old spots d (Ok (Read part)) new s all a (inr h) = part_read certs covers before old new spots d s all a h
-numbers_on certs covers before old spots d (Ok On) new s all a (inl h) = stays_on certs covers before old new spots d s all a h
-numbers_on certs covers before old spots d (Ok On) new s all a (inr h) = part_read certs covers before old new spots d s all a h
-numbers_on certs covers before old spots d (Err e) new s all a h = tt
+numbers_on certs covers before old spots d (Ok Over) new s t all a h = record { few = λ few. absurd (let many = h.count in omega (arith, few, many)); many = λ more. crowded certs covers before old new spots d t all a h }
+numbers_on certs covers before old spots d (Ok (Read part)) new s t all a (inl h) = stays_on certs covers before old new spots d s all a h
+numbers_on certs covers before old spots d (Ok (Read part)) new s t all a (inr h) = part_read certs covers before old new spots d s all a h
+numbers_on certs covers before old spots d (Ok On) new s t all a (inl h) = stays_on certs covers before old new spots d s all a h
+numbers_on certs covers before old spots d (Ok On) new s t all a (inr h) = part_read certs covers before old new spots d s all a h
+numbers_on certs covers before old spots d (Err e) new s t all a h = tt
 
 -- ---- the end
-
-lemma_spelled : (i : ℕ) (xs : List Lemma) (k : ℕ) (x : Lemma) → AllByRecursion IsSpelled (lemmas_lines i xs) → slice_get xs k ≡ Some x → AllByRecursion IsSpelled (state_lines x)
-lemma_spelled i [] k x h e = absurd (none_some x e)
-lemma_spelled i (y ∷ xs) zero x h e =
-    let r = all_split IsSpelled (lemma_lines i y) (lemmas_lines (suc i) xs) h in
-    let q = all_split IsSpelled (state_lines y) (rule_lines (tree_lines y.tree)) r.0.1 in
-    subst (λ (z : Lemma). AllByRecursion IsSpelled (state_lines z)) (some_same y x e) q.0
-lemma_spelled i (y ∷ xs) (suc k) x h e =
-    let r = all_split IsSpelled (lemma_lines i y) (lemmas_lines (suc i) xs) h in lemma_spelled (suc i) xs k x r.1 e
-
-states_spelled : (covers : List Cover) (certs : List (List ℕ)) → AreTextsOf covers certs → AreStatesSpelled covers
-states_spelled covers certs t i k c x e g =
-    let a = text_at covers certs i c t e in
-    let h = all_split IsSpelled (lemmas_lines 0 c.lemmas) (tail_lines c) a.1.spelled.1.1.1.1.1 in
-    lemma_spelled 0 c.lemmas k x h.0 g
 
 pub all_numbered : (certs : List (List ℕ)) (covers : List Cover) (n : Numbering) (spots : List Spot) → AreTextsOf covers certs → IsNumbering certs covers n spots →
     length spots ≤ n.part → AreNumbered certs covers n spots
@@ -391,3 +473,11 @@ all_numbered certs covers n spots t h over = go h.here
           texts = h.before;
           numbers = all;
         }
+
+-- all are read, or there are too many
+pub all_or_many : (certs : List (List ℕ)) (covers : List Cover) (n : Numbering) (spots : List Spot) → AreTextsOf covers certs → IsNumbering certs covers n spots →
+    length spots ≤ n.part → AreNumberedOrMany certs covers n spots
+all_or_many certs covers n spots t h over = record { few = λ few. all_numbered certs covers n spots t h over; many = λ many. absurd (by h.here many) } where
+  by : IsResting certs covers h.before n spots ⊎ IsWithin certs covers h.before n spots → 1048576 < n.known.count → ⊥
+  by (inl r) many = let few = r.few in omega (arith, few, many)
+  by (inr w) many = let few = w.reading.few in omega (arith, few, many)

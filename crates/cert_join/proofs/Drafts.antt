@@ -13,8 +13,9 @@ use Rattle.cert_join.specs.declared.joiner.Joiner.{Joiner}
 use Rattle.cert_join.specs.declared.joiner.Step.{Step}
 use Rattle.cert_join.specs.declared.joiner.Step.TheVariants.{Read, On, Over}
 use Rattle.cert_join.specs.declared.stop.Stop.{Stop}
-use Rattle.cert_join.specs.declared.stop.Stop.TheVariants.{Failed, Denied, Memory, Apart, Refused}
-use Rattle.cert_join.specs.Drafting.{HasDrafted, IsReadFailed, IsDraftFailed, IsOn, IsJoinedBehind, IsRun, IsSomeDrafted, IsStopped, IsWhole, Keeps, Reads, Runs}
+use Rattle.cert_join.specs.declared.stop.Stop.TheVariants.{Failed, Denied, Memory, Apart, Crowded, Refused}
+use Rattle.cert_joined.specs.Crowded.{IsCrowded}
+use Rattle.cert_join.specs.Drafting.{AreTooMany, HasDrafted, IsReadFailed, IsDraftFailed, IsOn, IsJoinedBehind, IsRun, IsSomeDrafted, IsStopped, IsWhole, Keeps, Reads, Runs}
 use Rattle.cert_join.specs.Gathered.{lists_of}
 use Rattle.cert_join.specs.Joining.{HasStepped, IsJoining}
 use Rattle.cert_join.proofs.Moved.{at_moved}
@@ -74,7 +75,8 @@ pub read_stops : (s : Sight) (p : Parts) (b : Option ℕ) (before : List ℕ) (d
 read_stops s p b before d new f Failed way h = read_fails s p b before d new f way h
 read_stops s p b before d new f Memory way h = stops_here s p b before d new f way h
 read_stops s p b before d new f Denied way h = absurd h
-read_stops s p b before d new f (Apart place) way h = absurd h
+read_stops s p b before d new f Apart way h = absurd h
+read_stops s p b before d new f Crowded way h = absurd h
 read_stops s p b before d new f (Refused fault) way h = absurd h
 
 -- ---- the joiner beside the draft
@@ -159,3 +161,13 @@ joins_all {A = A} s p b count before held j new old d f g left r starts none way
       by : (x : Result A Stop) → IsRun s p b before [] [] j x d g new left → IsJoinedBehind s p b count before x d g
       by (Ok x) h = whole s p b count before j new d g left starts h
       by (Err e) h = h
+
+-- the certificates have too many lemmas
+pub too_many : (s : Sight) (p : Parts) (b : Option ℕ) (count : ℕ) (before held : List ℕ) (j : Joiner) (old : Sight) (f : Feed) (certs : List (List ℕ)) (first : Cover) (others : List Cover) →
+    ((certs : List (List ℕ)) (first : Cover) (others : List Cover) → length certs ≡ count → AreTextsOf (first ∷ others) certs → IsJoining certs first (first ∷ others) [] [] j) →
+    held ≡ [] → HasDrafted s p b before old f →
+    ((s : Sight) (p : Parts) (b : Option ℕ) (before done : List ℕ) → HasDrafted s p b (before ++ done) old f → AreTooMany s done held j) →
+    s.parts ≡ Some certs → length certs ≡ count → AreTextsOf (first ∷ others) certs → IsCrowded (first ∷ others)
+too_many s p b count before held j old f certs first others starts none way crowds shown n texts =
+    let here : HasDrafted s p b (before ++ []) old f = subst (λ (t : List ℕ). HasDrafted s p b t old f) (sym (append-nil before)) way in
+    crowds s p b before [] here certs first others shown texts (subst (λ (t : List ℕ). IsJoining certs first (first ∷ others) [] t j) (sym none) (starts certs first others n texts))

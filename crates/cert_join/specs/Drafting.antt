@@ -7,6 +7,7 @@ use Rattle.poly_graph.specs.ProblemViews.{Parts}
 use Rattle.cert_check.specs.Feeding.{HasTaken}
 use Rattle.cert_check.specs.declared.feed.Feed.{Feed}
 use Rattle.cert_joined.specs.Covers.{AreTextsOf, Cover, JoinsTexts}
+use Rattle.cert_joined.specs.Crowded.{IsCrowded}
 use Rattle.cert_join.specs.declared.joiner.Joiner.{Joiner}
 use Rattle.cert_join.specs.declared.stop.Stop.{Stop}
 use Rattle.cert_join.specs.declared.stop.Stop.TheVariants.{Failed, Denied, Memory}
@@ -92,6 +93,11 @@ IsJoinedBehind s p b count before (Err e) d f = IsStopped s e d
 -- whatever was drafted before
 abbrev pub JoinsAll : {A : Type 0} → ℕ → Sight → Feed → Result A Stop → Sight → Feed → Type 0
 JoinsAll count old f r new g = (s : Sight) (p : Parts) (b : Option ℕ) (before : List ℕ) → HasDrafted s p b before old f → IsJoinedBehind s p b count before r new g
+
+-- where the desk shows certificates of covers that a joiner joins, and this was drafted, these have too many lemmas
+abbrev pub AreTooMany : Sight → List ℕ → List ℕ → Joiner → Type 0
+AreTooMany s done held j = (certs : List (List ℕ)) (first : Cover) (others : List Cover) → s.parts ≡ Some certs → AreTextsOf (first ∷ others) certs → IsJoining certs first (first ∷ others) done held j →
+    IsCrowded (first ∷ others)
 
 -- how more of a certificate is read: nothing changes, or the side failed, or there was no memory
 abbrev pub Reads : {A : Type 0} → Sight → Result A Stop → Sight → Type 0

@@ -19,7 +19,7 @@ use Rattle.cert_join.specs.Due.{Course, IsNextDue, stacked, tree_text}
 use Rattle.cert_join.specs.Gathered.{lists_of, spot_at}
 use Rattle.cert_join.specs.Heads.{AreAlike, AreHeadsRead, IsReading, head_lines, head_text}
 use Rattle.cert_join.specs.LemmasDue.{AreLemmasDue, LemmasLeft, covers_of, lemmas_due}
-use Rattle.cert_join.specs.Numbered.{AreNumbered, IsNumbering}
+use Rattle.cert_join.specs.Numbered.{AreNumberedOrMany, IsNumbering}
 use Rattle.cert_join.specs.Spot.{IsPieceAt, Spot}
 use Rattle.cert_join.specs.Written.{behind_lemmas, text_of, written_from}
 
@@ -94,7 +94,7 @@ IsAt certs first covers done text numbers (Ends part is_read) spots = IsJoinText
 abbrev pub IsOver : List (List ℕ) → Cover → List Cover → List ℕ → List ℕ → List (List ℕ) → Stage → List Spot → Type 0
 IsOver certs first covers done text numbers (Heads h) spots = (done ++ text ≡ []) × AreHeadsRead certs covers h spots
 IsOver certs first covers done text numbers (Point part) spots = ⊥
-IsOver certs first covers done text numbers (Numbering h n) spots = (done ++ text ≡ []) × AreAtNumbers certs first covers h × AreNumbered certs covers n spots
+IsOver certs first covers done text numbers (Numbering h n) spots = (done ++ text ≡ []) × AreAtNumbers certs first covers h × AreNumberedOrMany certs covers n spots
 IsOver certs first covers done text numbers (Lemmas s) spots = AreLemmasWritten certs first covers (done ++ text) numbers spots
 IsOver certs first covers done text numbers (Trees t) spots =
     AreSettled first covers numbers × ((u : Tree) × Joins (trees_by numbers covers) u

@@ -11,6 +11,7 @@ use Rattle.cover_model.specs.Derivation.{tree_lines}
 use Rattle.cert_model.specs.Written.{rule_lines}
 use Rattle.cert_read.specs.CertLine.{CertLine, lemma, no_list, tree_word, end_word}
 use Rattle.cert_joined.specs.Covers.{Cover, Lemma, AreAllLemmas, state_lines, lemmas_lines}
+use Rattle.cert_joined.specs.Crowded.{IsCrowded}
 use Rattle.cert_join.specs.declared.numbering.Kind.{Kind}
 use Rattle.cert_join.specs.declared.numbering.Kind.TheVariants.{Lemma as LemmaKind, No, Tree as TreeKind, Other}
 use Rattle.cert_join.specs.declared.numbering.Hashes.{Hashes}
@@ -176,8 +177,19 @@ pub record StaysInPart (cert : List ℕ) (before : List (List ℕ)) (c : Cover) 
   pub lists : new.numbers ≡ old.numbers
   pub reading : IsReadingPart cert before c new s
 
+-- the first lemmas of the certificate's have these numbers, and with them more states are known than a certificate may have
+pub record IsPartCrowded (before : List (List ℕ)) (c : Cover) (new : Numbering) : Type 0 where
+  pub first : List Lemma
+  pub others : List Lemma
+  pub lemmas : c.lemmas ≡ first ++ others
+  pub own : List ℕ
+  pub known : List (List ℕ)
+  pub numbers : HaveNumbers before own first known
+  pub many : 1048576 < length known
+  pub count : 1048576 < new.known.count
+
 abbrev pub ReadsPart : List ℕ → List (List ℕ) → Cover → Numbering → Result Step Unjoined → Numbering → Spot → Type 0
-ReadsPart cert before c old (Ok Over) new s = ⊥
+ReadsPart cert before c old (Ok Over) new s = IsPartCrowded before c new
 ReadsPart cert before c old (Ok x) new s = StaysInPart cert before c old new s ⊎ IsPartRead cert before c old new s
 ReadsPart cert before c old (Err e) new s = Unit {0}
 
@@ -199,7 +211,7 @@ MayStand kind n = kind ≢ LemmaKind → n.is_in_state ≡ false → 0 < length 
 abbrev pub TakesNext : Kind → List ℕ → Numbering → Result (Option Kind) AllocError → Numbering → Type 0
 TakesNext kind line old (Ok (Some TreeKind)) new = (kind ≡ TreeKind) × EndsPart old new
 TakesNext kind line old (Ok (Some found)) new =
-    (kind ≢ TreeKind) × TakesLine kind line old new × (new.known.count ≤ 1048576) × MayStand kind old
+    (kind ≢ TreeKind) × TakesLine kind line old new × MayStand kind old
 TakesNext kind line old x new = Unit {0}
 
 -- ---- all certificates
@@ -252,7 +264,12 @@ pub record AreNumbered (certs : List (List ℕ)) (covers : List Cover) (n : Numb
   pub texts : List (List ℕ)
   pub numbers : AllHaveNumbers [] (lists_of n) covers texts
 
+-- those of all are numbered, or there are too many
+pub record AreNumberedOrMany (certs : List (List ℕ)) (covers : List Cover) (n : Numbering) (spots : List Spot) : Type 0 where
+  pub few : n.known.count ≤ 1048576 → AreNumbered certs covers n spots
+  pub many : 1048576 < n.known.count → IsCrowded covers
+
 abbrev pub ReadsLemmas : List (List ℕ) → List Cover → Result Step Unjoined → Numbering → List Spot → Type 0
-ReadsLemmas certs covers (Ok Over) n spots = AreNumbered certs covers n spots
+ReadsLemmas certs covers (Ok Over) n spots = AreNumberedOrMany certs covers n spots
 ReadsLemmas certs covers (Ok x) n spots = IsNumbering certs covers n spots
 ReadsLemmas certs covers (Err e) n spots = Unit {0}

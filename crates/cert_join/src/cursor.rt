@@ -2,7 +2,7 @@
 ghost use Rattle.std.specs.Prelude.{◌≡◌, ◌⊎◌, [], ◌∷◌, ◌<◌, ℕ, List, IsTrue, true, false, Some, None, Ok, MatchOption, length, drop, option_copied};
 ghost use Rattle.cert_join.specs.Spot.{HasNoLine, IsBefore, IsLineSize, IsMark, IsNext, IsPieceAt, IsReady, line_in, rewound};
 
-use crate::stop::{Place, Unjoined};
+use crate::stop::Unjoined;
 use memchr::memchr;
 use std::alloc::{AllocError, Global};
 use std::marker::Model;
@@ -139,7 +139,7 @@ impl Cursor {
     ///
     /// # Errors
     /// There is none, or it is too long.
-    pub fn next(&mut self, part: usize) -> Result<bool, Unjoined>
+    pub fn next(&mut self) -> Result<bool, Unjoined>
         ensures same { self.new ≡ record self.old { size = self.new.size } }
         ensures next { (cert : List ℕ) (ls : List (List ℕ)) → IsBefore cert ls self.old →
             IsNext ls self.new result }
@@ -149,16 +149,8 @@ impl Cursor {
         }
         match self.size {
             Some(_) => Ok(true),
-            None => Err(Unjoined::Apart(Place {
-                part,
-                line: self.number(),
-            })),
+            None => Err(Unjoined::Apart),
         }
-    }
-
-    /// The number of the next line, from 1.
-    pub fn number(&self) -> u64 {
-        self.lines.saturating_add(1)
     }
 
     /// Passes the next line, where that is known.
@@ -167,7 +159,7 @@ impl Cursor {
             line_in self.old ≡ Some l → IsBefore cert ls self.new }
     {
         if let Some(size) = self.size {
-            let lines = self.number();
+            let lines = self.lines.saturating_add(1);
             self.at = self.at.saturating_add(size).saturating_add(1);
             self.size = None;
             self.searched = 0;

@@ -1,8 +1,13 @@
 // The joined certificate, written and checked in pieces.
-ghost use Rattle.cert_join.specs.Drafting.{JoinsAll, Keeps, Puts, Reads, Runs, Steps};
+ghost use Rattle.std.specs.Prelude.{◌≡◌, ◌++◌, ℕ, List, Option, Some, Err, length};
+ghost use Rattle.desk.specs.Sight.{Sight};
+ghost use Rattle.poly_graph.specs.ProblemViews.{Parts};
+ghost use Rattle.cert_joined.specs.Crowded.{HaveManyLemmas};
+ghost use Rattle.cert_join.specs.Drafting.{AreTooMany, HasDrafted, JoinsAll, Keeps, Puts, Reads, Runs, Steps};
+ghost use Rattle.cert_join.specs.declared.stop.Stop.TheVariants as stop;
 
 use crate::joiner::{Joiner, ROOM, Step};
-use crate::stop::{Stop, Unjoined};
+use crate::stop::{Halt, Stop};
 use cert_check::{CertFault, Feed};
 use desk::{Denied, Desk, Port, write_whole};
 use std::alloc::Global;
@@ -57,8 +62,10 @@ fn step<D: Desk>(
     joiner: &mut Joiner,
     text: &mut Vec<u8>,
 ) -> Result<bool, Stop>
-    ensures { Steps text.old.items joiner.old (D.sight desk.old) feed.old result
+    ensures steps { Steps text.old.items joiner.old (D.sight desk.old) feed.old result
         text.new.items joiner.new (D.sight desk.new) feed.new }
+    ensures crowded { result ≡ Err stop.Crowded → (done : List ℕ) →
+        AreTooMany (D.sight desk.old) done text.old.items joiner.old }
 {
     match joiner.step(text) {
         Ok(Step::Read(part)) => match read(desk, joiner, part) {
@@ -80,8 +87,9 @@ fn step<D: Desk>(
             }
             Err(stop) => Err(stop),
         },
-        Err(Unjoined::Memory) => Err(Stop::Memory),
-        Err(Unjoined::Apart(place)) => Err(Stop::Apart(place)),
+        Err(Halt::Memory) => Err(Stop::Memory),
+        Err(Halt::Apart) => Err(Stop::Apart),
+        Err(Halt::Crowded) => Err(Stop::Crowded),
     }
 }
 
@@ -92,8 +100,11 @@ fn run<D: Desk>(
     joiner: &mut Joiner,
     text: &mut Vec<u8>,
 ) -> Result<Joined, Stop>
-    ensures { Runs text.old.items joiner.old (D.sight desk.old) feed.old result
+    ensures runs { Runs text.old.items joiner.old (D.sight desk.old) feed.old result
         text.new.items joiner.new (D.sight desk.new) feed.new }
+    ensures crowded { result ≡ Err stop.Crowded → (s : Sight) (p : Parts) (b : Option ℕ) →
+        (before done : List ℕ) → HasDrafted s p b (before ++ done) (D.sight desk.old) feed.old →
+        AreTooMany s done text.old.items joiner.old }
 {
     for _ in 0..u64::MAX {
         match step(desk, feed, joiner, text) {
@@ -114,14 +125,18 @@ fn run<D: Desk>(
 ///
 /// # Errors
 /// A certificate could not be read or the draft not written, there was no memory, the certificates do not go together, or
-/// the feed refuses what is joined.
+/// have too many lemmas, or the feed refuses what is joined.
 pub fn join<D: Desk>(
     alloc: Global,
     desk: &mut D,
     count: usize,
     feed: &mut Feed<'_>,
 ) -> Result<Joined, Stop>
-    ensures { JoinsAll count (D.sight desk.old) feed.old result (D.sight desk.new) feed.new }
+    ensures joins { JoinsAll count (D.sight desk.old) feed.old result (D.sight desk.new) feed.new }
+    ensures crowded { result ≡ Err stop.Crowded → (s : Sight) (p : Parts) (b : Option ℕ) →
+        (before : List ℕ) → HasDrafted s p b before (D.sight desk.old) feed.old →
+        (certs : List (List ℕ)) → s.parts ≡ Some certs → length certs ≡ count →
+        HaveManyLemmas certs }
 {
     let Ok(mut joiner) = Joiner::new(alloc, count) else {
         return Err(Stop::Memory);

@@ -8,7 +8,7 @@ ghost use Rattle.cert_join.specs.Spot.{Spot, IsBefore};
 ghost use Rattle.cert_join.specs.Heads.{all_lines, head_text, HasRead, IsBehind, IsReading, ReadsHeads, ReadsOf, TakesLine};
 
 use crate::cursor::Cursor;
-use crate::joiner::{Step, apart};
+use crate::joiner::Step;
 use crate::line::number_of;
 use crate::stop::Unjoined;
 use std::alloc::{AllocError, Global};
@@ -165,7 +165,7 @@ impl Heads {
             ReadsOf cert covers c self.old result self.new cursor.new }
     {
         let part = self.part;
-        match cursor.next(part) {
+        match cursor.next() {
             Ok(true) => {}
             Ok(false) => return Ok(Step::Read(part)),
             Err(unjoined) => return Err(unjoined),
@@ -178,7 +178,7 @@ impl Heads {
             None => false,
         };
         if !is_good {
-            return Err(apart(part, cursor));
+            return Err(Unjoined::Apart);
         }
         cursor.pass();
         self.pass();

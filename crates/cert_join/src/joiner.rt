@@ -1,22 +1,25 @@
 // The lines of the joined certificate, one after the other.
-ghost use Rattle.std.specs.Prelude.{◌≡◌, ◌++◌, ◌∷◌, ◌<◌, ◌≤◌, ◌^◌, ℕ, List, [], Ok, OnOk, IfOk, MatchOption, length, map};
+ghost use Rattle.std.specs.Prelude.{◌≡◌, ◌++◌, ◌∷◌, ◌<◌, ◌≤◌, ◌^◌, ℕ, List, [], Ok, Err, OnOk, IfErr, IfOk, MatchOption, length, map};
 ghost use Rattle.cert_joined.specs.Covers.{Cover, AreTextsOf};
+ghost use Rattle.cert_joined.specs.Crowded.{IsCrowded};
 ghost use Rattle.cert_join.specs.Ahead.{AreBefore};
 ghost use Rattle.cert_join.specs.Gathered.{lists_of, spot_at};
 ghost use Rattle.cert_read.specs.CertLine.{cover};
 ghost use Rattle.cert_join.specs.Heads.{all_lines, head_text, AreHeadsRead};
-ghost use Rattle.cert_join.specs.Numbered.{AreNumbered};
+ghost use Rattle.cert_join.specs.Numbered.{AreNumberedOrMany};
 ghost use Rattle.cert_join.specs.Joining.{AreAtNumbers, AreLemmasWritten, HasStepped, IsAt, Within, IsJoinText, IsJoining, IsOver, IsPiece};
 ghost use Rattle.cert_join.specs.NextLine.{CopiesNext, EndsNext};
 ghost use Rattle.cert_join.specs.Spot.{IsBefore};
 ghost use Rattle.cert_join.specs.Written.{text_of};
+ghost use Rattle.cert_join.specs.declared.stop.Halt.TheVariants as halt;
+ghost use Rattle.cert_join.specs.declared.stop.Unfollowed.TheVariants as unfollowed;
 
 use crate::cursor::Cursor;
 use crate::heads::{Heads, append_line};
 use crate::lemmas::Lemmas;
 use crate::line::append_number;
 use crate::numbering::Numbering;
-use crate::stop::{Place, Unjoined};
+use crate::stop::{Halt, Unfollowed, Unjoined};
 use crate::trees::Trees;
 use std::alloc::{AllocError, Global};
 use std::mem;
@@ -33,14 +36,6 @@ pub enum Step {
     On,
     /// All is done.
     Over,
-}
-
-/// The certificate does not go together with the others, which is seen at its next line.
-pub fn apart(part: usize, cursor: &Cursor) -> Unjoined {
-    Unjoined::Apart(Place {
-        part,
-        line: cursor.number(),
-    })
 }
 
 #[derive(Drop)]
@@ -88,12 +83,13 @@ fn append_kind(heads: &Heads, count: u32, text: &mut Vec<u8>) -> Result<(), Allo
 }
 
 // The stage, where there was memory.
-fn some(stage: Result<Stage, AllocError>) -> Result<Option<Stage>, AllocError>
-    ensures { IfOk result (λ next. MatchOption next ⊥ (λ s. stage ≡ Ok s)) }
+fn some(stage: Result<Stage, AllocError>) -> Result<Option<Stage>, Unfollowed>
+    ensures stage { IfOk result (λ next. MatchOption next ⊥ (λ s. stage ≡ Ok s)) }
+    ensures memory { IfErr result (λ e. e ≡ unfollowed.Memory) }
 {
     match stage {
         Ok(stage) => Ok(Some(stage)),
-        Err(error) => Err(error),
+        Err(_) => Err(Unfollowed::Memory),
     }
 }
 
@@ -165,7 +161,7 @@ fn step_to_end(cursor: &mut Cursor, part: usize, is_read: &mut bool) -> Result<S
             *is_read = true;
             Ok(Step::On)
         }
-        _ => Err(apart(part, cursor)),
+        _ => Err(Unjoined::Apart),
     }
 }
 
@@ -286,19 +282,25 @@ impl Joiner {
         heads: &Heads,
         numbering: Numbering,
         text: &mut Vec<u8>,
-    ) -> Result<Stage, AllocError>
+    ) -> Result<Stage, Unfollowed>
         ensures same { self.new.cursors ≡ self.old.cursors }
         ensures stage { IfOk result (λ stage. (certs : List (List ℕ)) (first : Cover) →
             (covers : List Cover) → (done : List ℕ) → AreTextsOf covers certs →
             done ++ text.old.items ≡ [] →
             AreAtNumbers certs first covers heads.now →
-            AreNumbered certs covers numbering self.old.cursors.items →
+            AreNumberedOrMany certs covers numbering self.old.cursors.items →
             IsAt certs first covers done text.new.items (lists_of self.new.numbers.items)
             stage self.new.cursors.items) }
+        ensures crowded { result ≡ Err unfollowed.Crowded → (certs : List (List ℕ)) →
+            (covers : List Cover) →
+            AreNumberedOrMany certs covers numbering self.old.cursors.items → IsCrowded covers }
     {
+        if numbering.is_crowded() {
+            return Err(Unfollowed::Crowded);
+        }
         match append_kind(heads, numbering.count, text) {
             Ok(()) => {}
-            Err(error) => return Err(error),
+            Err(_) => return Err(Unfollowed::Memory),
         }
         // The rules of version 2 would not be refused.
         self.dropped = numbering.dropped || heads.has_old;
@@ -327,8 +329,12 @@ impl Joiner {
     }
 
     // What follows this stage, which is over; none behind the last.
-    fn behind(&mut self, stage: Stage, text: &mut Vec<u8>) -> Result<Option<Stage>, AllocError>
+    fn behind(&mut self, stage: Stage, text: &mut Vec<u8>) -> Result<Option<Stage>, Unfollowed>
         ensures same { self.new.cursors ≡ self.old.cursors }
+        ensures crowded { result ≡ Err unfollowed.Crowded → (certs : List (List ℕ)) →
+            (first : Cover) → (covers : List Cover) → (done : List ℕ) →
+            IsOver certs first covers done text.old.items (lists_of self.old.numbers.items) stage
+            self.old.cursors.items → IsCrowded covers }
         ensures next { IfOk result (λ next. (certs : List (List ℕ)) (first : Cover) →
             (others : List Cover) → (done : List ℕ) → AreTextsOf (first ∷ others) certs →
             IsOver certs first (first ∷ others) done text.old.items
@@ -340,14 +346,17 @@ impl Joiner {
         match stage {
             Stage::Heads(heads) => some(self.behind_heads(heads, text)),
             Stage::Numbering(heads, numbering) => {
-                some(self.behind_numbering(&heads, numbering, text))
+                match self.behind_numbering(&heads, numbering, text) {
+                    Ok(stage) => Ok(Some(stage)),
+                    Err(unfollowed) => Err(unfollowed),
+                }
             }
             Stage::Lemmas(_) => some(self.behind_lemmas(text)),
             Stage::Trees(trees) => {
                 self.dropped = self.dropped || trees.dropped;
                 match text.extend_from_slice(b"end\n") {
                     Ok(()) => Ok(Some(Stage::Ends(0, false))),
-                    Err(error) => Err(error),
+                    Err(_) => Err(Unfollowed::Memory),
                 }
             }
             Stage::Ends(part, _) if part < self.cursors.len() => {
@@ -371,16 +380,21 @@ impl Joiner {
     }
 
     /// Appends more of the text, or says what has to be read first.
-    pub fn step(&mut self, text: &mut Vec<u8>) -> Result<Step, Unjoined>
-        ensures { IfOk result (λ step. (certs : List (List ℕ)) (first : Cover) →
+    pub fn step(&mut self, text: &mut Vec<u8>) -> Result<Step, Halt>
+        ensures steps { IfOk result (λ step. (certs : List (List ℕ)) (first : Cover) →
             (others : List Cover) → (done : List ℕ) → AreTextsOf (first ∷ others) certs →
             IsJoining certs first (first ∷ others) done text.old.items self.old →
             HasStepped certs first (first ∷ others) done step text.new.items self.new) }
+        ensures crowded { result ≡ Err halt.Crowded → (certs : List (List ℕ)) (first : Cover) →
+            (others : List Cover) → (done : List ℕ) → AreTextsOf (first ∷ others) certs →
+            IsJoining certs first (first ∷ others) done text.old.items self.old →
+            IsCrowded (first ∷ others) }
     {
         match self.step_within(text) {
             Ok(Step::Over) => {}
             Ok(step) => return Ok(step),
-            Err(unjoined) => return Err(unjoined),
+            Err(Unjoined::Memory) => return Err(Halt::Memory),
+            Err(Unjoined::Apart) => return Err(Halt::Apart),
         }
         let all = self.cursors.len();
         let stage = mem::replace(&mut self.stage, Stage::Ends(all, true));
@@ -390,7 +404,8 @@ impl Joiner {
                 Ok(Step::On)
             }
             Ok(None) => Ok(Step::Over),
-            Err(_) => Err(Unjoined::Memory),
+            Err(Unfollowed::Memory) => Err(Halt::Memory),
+            Err(Unfollowed::Crowded) => Err(Halt::Crowded),
         }
     }
 }

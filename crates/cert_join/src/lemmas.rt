@@ -8,7 +8,7 @@ ghost use Rattle.cert_join.specs.Spot.{IsBefore};
 ghost use Rattle.cert_join.specs.Written.{texts_of};
 
 use crate::cursor::Cursor;
-use crate::joiner::{Step, apart};
+use crate::joiner::Step;
 use crate::line::{append_number, append_renumbered, number_of};
 use crate::stop::Unjoined;
 use std::alloc::AllocError;
@@ -142,13 +142,13 @@ impl Lemmas {
             StepsWithin cert t numbers.now self.old self.new r cursor.new
             text.old.items text.new.items result }
     {
-        match cursor.next(self.part) {
+        match cursor.next() {
             Ok(true) => {}
             Ok(false) => return Ok(Step::Read(self.part)),
             Err(error) => return Err(error),
         }
         let Some(line) = cursor.line() else {
-            return Err(apart(self.part, cursor));
+            return Err(Unjoined::Apart);
         };
         if line == b"tree".as_slice() {
             self.part += 1;
@@ -162,7 +162,7 @@ impl Lemmas {
                 cursor.pass();
                 Ok(Step::On)
             }
-            Ok(false) => Err(apart(self.part, cursor)),
+            Ok(false) => Err(Unjoined::Apart),
             Err(_) => Err(Unjoined::Memory),
         }
     }

@@ -1,5 +1,5 @@
 // The numbers that lemmas have in the joined certificate.
-ghost use Rattle.std.specs.Prelude.{◌≡◌, ◌≢◌, ◌⊎◌, ◌++◌, ◌∷◌, ◌<◌, ◌≤◌, ◌+◌, [], ℕ, List, true, false, None, Some, Ok, IfOk, OnOk, length, map, slice_get};
+ghost use Rattle.std.specs.Prelude.{◌≡◌, ◌≢◌, ◌⊎◌, ◌++◌, ◌∷◌, ◌<◌, ◌≤◌, ◌+◌, [], ℕ, List, true, false, None, Some, Ok, IfOk, MatchBool, OnOk, length, map, slice_get};
 ghost use Rattle.cert_read.specs.CertLine.{CertLine};
 ghost use Rattle.cert_read.specs.LineText.{line_text};
 ghost use Rattle.cert_joined.specs.Covers.{Cover, AreTextsOf, IsTextOf};
@@ -10,7 +10,7 @@ ghost use Rattle.cert_join.specs.Numbered.{line_kind, place_of, EndsPart, IsKnow
 
 use crate::cursor::{Cursor, Mark};
 use crate::heads::append_line;
-use crate::joiner::{Step, apart};
+use crate::joiner::Step;
 use crate::line::first_word;
 use crate::stop::Unjoined;
 use std::alloc::{AllocError, Global};
@@ -364,10 +364,17 @@ impl Numbering {
             return Ok(None);
         }
         match self.take(kind, line) {
-            Ok(()) if self.known.count <= MOST_LEMMAS => Ok(Some(kind)),
-            Ok(()) => Ok(None),
+            Ok(()) => Ok(Some(kind)),
             Err(error) => Err(error),
         }
+    }
+
+    /// Whether the lemmas that were read are more than a certificate may have, equal ones counted once.
+    pub fn is_crowded(&self) -> bool
+        ensures { MatchBool result (1048576 < self.now.known.count)
+            (self.now.known.count ≤ 1048576) }
+    {
+        self.known.count > MOST_LEMMAS
     }
 
     // Reads one more line of this certificate, which has so many lemmas.
@@ -379,21 +386,25 @@ impl Numbering {
     {
         let part = self.part;
         let mark = self.begun(cursor);
-        match cursor.next(part) {
+        match cursor.next() {
             Ok(true) => {}
             Ok(false) => return Ok(Step::Read(part)),
             Err(unjoined) => return Err(unjoined),
         }
-        match self.take_next(cursor, count) {
-            Ok(Some(kind)) => move_on(cursor, kind, mark),
-            Ok(None) => return Err(apart(part, cursor)),
+        let kind = match self.take_next(cursor, count) {
+            Ok(Some(kind)) => kind,
+            Ok(None) => return Err(Unjoined::Apart),
             Err(_) => return Err(Unjoined::Memory),
+        };
+        if self.is_crowded() {
+            return Ok(Step::Over);
         }
+        move_on(cursor, kind, mark);
         Ok(Step::On)
     }
 
     /// Reads one more line, where `counts` says of each certificate how many lemmas it has. Where the lemmas of one are
-    /// read it goes back to their beginning.
+    /// read it goes back to their beginning. It is over where all are read, and as soon as they are too many.
     pub fn step(&mut self, cursors: &mut [Cursor], counts: &[u32]) -> Result<Step, Unjoined>
         ensures { (certs : List (List ℕ)) (covers : List Cover) → AreTextsOf covers certs →
             IsNumbering certs covers self.old cursors.old →
@@ -405,7 +416,7 @@ impl Numbering {
         }
         let count = match counts.get(part) {
             Some(count) => *count,
-            None => return Err(apart(part, &cursors[part])),
+            None => return Err(Unjoined::Apart),
         };
         self.read(&mut cursors[part], count)
     }

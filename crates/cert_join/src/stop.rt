@@ -5,15 +5,6 @@ ghost use Rattle.cert_join.specs.declared.stop.Unjoined.TheVariants as unjoined;
 use cert_check::CertFault;
 use std::alloc::{AllocError, AllocFailed};
 
-/// A line of a certificate.
-#[derive(Clone, Copy, Debug, PartialEq, Eq)]
-pub struct Place {
-    /// The number of the certificate, from 0.
-    pub part: usize,
-    /// The number of the line, from 1.
-    pub line: u64,
-}
-
 /// Why no whole certificate was written.
 #[derive(Clone, Copy, Debug, PartialEq, Eq)]
 pub enum Stop {
@@ -22,8 +13,10 @@ pub enum Stop {
     /// The draft could not be written.
     Denied,
     Memory,
-    /// A certificate does not go together with the others, which is seen at this place.
-    Apart(Place),
+    /// A certificate does not go together with the others, or has a line that may not stand in a certificate.
+    Apart,
+    /// The lemmas of the certificates are more than one certificate may have, equal ones counted once.
+    Crowded,
     /// The checker refuses what is joined.
     Refused(CertFault),
 }
@@ -32,7 +25,22 @@ pub enum Stop {
 #[derive(Clone, Copy, Debug, PartialEq, Eq)]
 pub enum Unjoined {
     Memory,
-    Apart(Place),
+    Apart,
+}
+
+/// Why nothing follows a stage that is over.
+#[derive(Clone, Copy, Debug, PartialEq, Eq)]
+pub enum Unfollowed {
+    Memory,
+    Crowded,
+}
+
+/// Why no more of the joined certificate is there.
+#[derive(Clone, Copy, Debug, PartialEq, Eq)]
+pub enum Halt {
+    Memory,
+    Apart,
+    Crowded,
 }
 
 impl From<AllocError> for Unjoined {

@@ -12,9 +12,9 @@ ghost use Rattle.cert_join.specs.Gathered.{AllReady, AllThere, AreAlike, AreDist
 ghost use Rattle.cert_join.specs.Joining.{IsFirstOf};
 
 use crate::cursor::Cursor;
-use crate::joiner::{ROOM, Step, apart};
+use crate::joiner::{ROOM, Step};
 use crate::line::{Left, append_renumbered, left_of};
-use crate::stop::{Place, Unjoined};
+use crate::stop::Unjoined;
 use crate::weighing::Weighing;
 use std::alloc::{AllocError, Global};
 use std::mem;
@@ -85,13 +85,13 @@ fn append_at(
         text.new.items ≡ text.old.items ++ text_at (lists_of numbers.now) part r)) }
 {
     if part >= cursors.len() || part >= numbers.len() {
-        return Err(unjoined_at(cursors, part));
+        return Err(Unjoined::Apart);
     }
     let Some(line) = cursors[part].line() else {
-        return Err(unjoined_at(cursors, part));
+        return Err(Unjoined::Apart);
     };
     if !append_renumbered(text, line, &numbers[part])? {
-        return Err(unjoined_at(cursors, part));
+        return Err(Unjoined::Apart);
     }
     Ok(())
 }
@@ -107,15 +107,6 @@ fn unread_of(cursors: &mut [Cursor], parts: &[usize]) -> Option<usize>
         }
     }
     None
-}
-
-// The next line of the certificate is none that may stand there.
-fn unjoined_at(cursors: &[Cursor], part: usize) -> Unjoined {
-    let line = match cursors.get(part) {
-        Some(cursor) => cursor.number(),
-        None => 0,
-    };
-    Unjoined::Apart(Place { part, line })
 }
 
 // Certificates by what their next lines leave.
@@ -140,7 +131,7 @@ fn sorted(alloc: Global, cursors: &[Cursor], parts: &[usize]) -> Result<Split, U
     let mut is_stuck = false;
     for part in parts {
         let Some(kind) = left_at(cursors, *part) else {
-            return Err(unjoined_at(cursors, *part));
+            return Err(Unjoined::Apart);
         };
         is_stuck = is_stuck || kind == Left::Stuck;
         if kind.stays() {
@@ -186,7 +177,6 @@ fn are_alike(
 fn copy_line(
     cursor: &mut Cursor,
     numbers: &[u32],
-    part: usize,
     waiting: &mut u64,
     text: &mut Vec<u8>,
 ) -> Result<bool, Unjoined>
@@ -199,13 +189,13 @@ fn copy_line(
         return Ok(false);
     }
     let Some(line) = cursor.line() else {
-        return Err(apart(part, cursor));
+        return Err(Unjoined::Apart);
     };
     let Some(left) = left_of(line) else {
-        return Err(apart(part, cursor));
+        return Err(Unjoined::Apart);
     };
     if !append_renumbered(text, line, numbers)? {
-        return Err(apart(part, cursor));
+        return Err(Unjoined::Apart);
     }
     text.push(b'\n')?;
     *waiting = left.waiting(*waiting);
@@ -218,7 +208,6 @@ fn copy_line(
 fn copy(
     cursor: &mut Cursor,
     numbers: &[u32],
-    part: usize,
     waiting: &mut u64,
     text: &mut Vec<u8>,
 ) -> Result<bool, Unjoined>
@@ -230,7 +219,7 @@ fn copy(
         if *waiting == 0 || text.len() >= ROOM {
             break;
         }
-        if !copy_line(cursor, numbers, part, waiting, text)? {
+        if !copy_line(cursor, numbers, waiting, text)? {
             return Ok(false);
         }
     }
@@ -397,7 +386,7 @@ impl Trees {
             IsDue k (stacked self.new.places.items) text.new.items cursors.new) }
     {
         let Some(left) = left_at(cursors, part) else {
-            return Err(unjoined_at(cursors, part));
+            return Err(Unjoined::Apart);
         };
         take_line(cursors, numbers, part, &parts, text)?;
         self.push_behind(left, parts)?;
@@ -444,10 +433,10 @@ impl Trees {
             text.new.items cursors.new) }
     {
         if part >= cursors.len() || part >= numbers.len() {
-            return Err(unjoined_at(cursors, part));
+            return Err(Unjoined::Apart);
         }
         let mut left = waiting;
-        let is_there = copy(&mut cursors[part], &numbers[part], part, &mut left, text)?;
+        let is_there = copy(&mut cursors[part], &numbers[part], &mut left, text)?;
         self.task = copying(part, left);
         if is_there {
             Ok(Step::On)
@@ -508,10 +497,10 @@ impl Trees {
             Err(unjoined) => return Err(unjoined),
         }
         let Some((part, mark)) = weighing.chosen() else {
-            return Err(unjoined_at(cursors, 0));
+            return Err(Unjoined::Apart);
         };
         if part >= cursors.len() {
-            return Err(unjoined_at(cursors, part));
+            return Err(Unjoined::Apart);
         }
         cursors[part].rewind(mark);
         self.task = Task::Copy { part, waiting: 1 };

@@ -9,7 +9,7 @@ ghost use Rattle.cert_join.specs.Spot.{Spot, IsBefore, IsMark};
 ghost use Rattle.cert_join.specs.Weighed.{AreAhead, AreApart, Branch, IsChoosing, IsChosen, IsGone, IsLeft, IsWeighStep, IsWeighing, IsWithin, behind_next, behind_tree, first_closing, forest_texts, passed};
 
 use crate::cursor::{Cursor, Mark};
-use crate::joiner::{Step, apart};
+use crate::joiner::Step;
 use crate::line::{Left, left_of};
 use crate::stop::Unjoined;
 
@@ -29,13 +29,13 @@ pub struct Weighing {
 }
 
 // What the certificate's next line leaves; none where more has to be read first.
-fn left_of_next(cursor: &mut Cursor, part: usize) -> Result<Option<Left>, Unjoined>
+fn left_of_next(cursor: &mut Cursor) -> Result<Option<Left>, Unjoined>
     ensures same { cursor.new ≡ record cursor.old { size = cursor.new.size } }
     ensures left { (cert : List ℕ) (r : Line) (ls : List (List ℕ)) →
         IsBefore cert (rule_text r ∷ ls) cursor.old → length (rule_text r) ≤ longest_line →
         IsLeft r cursor.new result }
 {
-    match cursor.next(part) {
+    match cursor.next() {
         Ok(true) => {}
         Ok(false) => return Ok(None),
         Err(unjoined) => return Err(unjoined),
@@ -43,9 +43,9 @@ fn left_of_next(cursor: &mut Cursor, part: usize) -> Result<Option<Left>, Unjoin
     match cursor.line() {
         Some(line) => match left_of(line) {
             Some(left) => Ok(Some(left)),
-            None => Err(apart(part, cursor)),
+            None => Err(Unjoined::Apart),
         },
-        None => Err(apart(part, cursor)),
+        None => Err(Unjoined::Apart),
     }
 }
 
@@ -127,7 +127,7 @@ impl Weighing {
     {
         let mark = self.mark_at(cursor);
         self.mark = Some(mark);
-        match left_of_next(cursor, part) {
+        match left_of_next(cursor) {
             Ok(Some(left)) => {
                 cursor.pass();
                 self.take(part, mark, left);

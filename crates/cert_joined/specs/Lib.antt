@@ -1,3 +1,4 @@
 pub mod Covers
+pub mod Crowded
 pub mod Joined
 pub mod Laws
