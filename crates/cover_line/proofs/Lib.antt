@@ -1,2 +1,1 @@
 mod AllWords
-pub mod Groups

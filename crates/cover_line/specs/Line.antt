@@ -1,4 +1,4 @@
--- The lines of a cover's tree, with what each names.
+-- The lines of a cover's tree by shape, with what each names.
 use Rattle.std.specs.Prelude.{ℕ, List}
 use Rattle.dyadic.specs.Rounding.{Dyadic}
 
@@ -6,16 +6,84 @@ use Rattle.dyadic.specs.Rounding.{Dyadic}
 abbrev pub Multipliers : Type 0
 Multipliers = List (ℕ × Dyadic)
 
--- numbers of atoms for pull, unit, void, push, void_no, case and stuck; atoms with their multipliers for combine and
--- void_combine; an atom and a lemma for ban; a lemma for by; an axis for cut and flip
+-- ---- shapes
+
+-- what makes the box smaller: the range of an atom, the off-range of one that fails, a combination of atoms
+pub data Narrowing : Type 0 where
+  by_range by_off_range : ℕ → Narrowing
+  by_combination : Multipliers → Narrowing
+
+-- what closes the state: a narrowing leaves nothing, the form may not hold, a lemma covers it
+pub data Ending : Type 0 where
+  void_by : Narrowing → Ending
+  false_form : Ending
+  by_lemma : ℕ → Ending
+
+-- what marks an atom: it has to hold; by a lemma it may not
+pub data Marking : Type 0 where
+  unit_atom : ℕ → Marking
+  ban_atom : ℕ → ℕ → Marking
+
+-- what parts the state: an axis at a place, a Bool axis, an atom
+pub data Branching : Type 0 where
+  cut_axis : ℕ → Dyadic → Branching
+  flip_axis case_atom : ℕ → Branching
+
+-- what leaves the state as it is: open, or stuck with an atom
+pub data Staying : Type 0 where
+  open_state : Staying
+  stuck_atom : ℕ → Staying
+
 pub data Line : Type 0 where
-  pull unit void push void_no : ℕ → Line
-  combine void_combine : Multipliers → Line
-  ban : ℕ → ℕ → Line
-  make_false : Line
-  by : ℕ → Line
-  cut : ℕ → Dyadic → Line
-  flip : ℕ → Line
-  case : ℕ → Line
-  open_line : Line
-  stuck : ℕ → Line
+  narrow_by : Narrowing → Line
+  end_by : Ending → Line
+  mark_by : Marking → Line
+  branch_by : Branching → Line
+  stay_by : Staying → Line
+
+-- ---- rules
+
+abbrev pub pull : ℕ → Line
+pull j = narrow_by (by_range j)
+
+abbrev pub push : ℕ → Line
+push j = narrow_by (by_off_range j)
+
+abbrev pub combine : Multipliers → Line
+combine ms = narrow_by (by_combination ms)
+
+abbrev pub void : ℕ → Line
+void j = end_by (void_by (by_range j))
+
+abbrev pub void_no : ℕ → Line
+void_no j = end_by (void_by (by_off_range j))
+
+abbrev pub void_combine : Multipliers → Line
+void_combine ms = end_by (void_by (by_combination ms))
+
+abbrev pub make_false : Line
+make_false = end_by false_form
+
+abbrev pub by : ℕ → Line
+by i = end_by (by_lemma i)
+
+abbrev pub unit : ℕ → Line
+unit j = mark_by (unit_atom j)
+
+abbrev pub ban : ℕ → ℕ → Line
+ban j i = mark_by (ban_atom j i)
+
+abbrev pub cut : ℕ → Dyadic → Line
+cut axis c = branch_by (cut_axis axis c)
+
+abbrev pub flip : ℕ → Line
+flip axis = branch_by (flip_axis axis)
+
+abbrev pub case : ℕ → Line
+case j = branch_by (case_atom j)
+
+abbrev pub open_line : Line
+open_line = stay_by open_state
+
+abbrev pub stuck : ℕ → Line
+stuck j = stay_by (stuck_atom j)

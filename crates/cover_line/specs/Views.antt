@@ -1,53 +1,83 @@
 -- The code's rules and words as the definitions see them.
-use Rattle.std.specs.Prelude.{ℕ, List, [], map}
+use Rattle.std.specs.Prelude.{ℕ, List, map}
 use Rattle.dyadic.specs.declared.dy.Dy.{Dy}
 use Rattle.dyadic.specs.Views.{dyadic_of}
-use Rattle.cover_line.specs.Line.{Multipliers, Line, pull, unit, void, push, void_no, combine, void_combine, ban, make_false, by, cut, flip, case, open_line, stuck}
-use Rattle.cover_line.specs.declared.rule.AtomRule.{AtomRule}
-use Rattle.cover_line.specs.declared.rule.AtomRule.TheVariants as atom
-use Rattle.cover_line.specs.declared.rule.CombinationRule.{CombinationRule}
-use Rattle.cover_line.specs.declared.rule.CombinationRule.TheVariants as combination
+use Rattle.cover_line.specs.Line.{Multipliers, Narrowing, by_range, by_off_range, by_combination, Ending, void_by, false_form, by_lemma, Marking, unit_atom, ban_atom, Branching, cut_axis, flip_axis, case_atom, Staying, open_state, stuck_atom, Line, narrow_by, end_by, mark_by, branch_by, stay_by}
+use Rattle.cover_line.specs.declared.rule.Narrowing.{Narrowing as CodeNarrowing}
+use Rattle.cover_line.specs.declared.rule.Narrowing.TheVariants as narrowing
+use Rattle.cover_line.specs.declared.rule.Ending.{Ending as CodeEnding}
+use Rattle.cover_line.specs.declared.rule.Ending.TheVariants as ending
+use Rattle.cover_line.specs.declared.rule.Marking.{Marking as CodeMarking}
+use Rattle.cover_line.specs.declared.rule.Marking.TheVariants as marking
+use Rattle.cover_line.specs.declared.rule.Branching.{Branching as CodeBranching}
+use Rattle.cover_line.specs.declared.rule.Branching.TheVariants as branching
+use Rattle.cover_line.specs.declared.rule.Staying.{Staying as CodeStaying}
+use Rattle.cover_line.specs.declared.rule.Staying.TheVariants as staying
 use Rattle.cover_line.specs.declared.rule.Rule.{Rule}
 use Rattle.cover_line.specs.declared.rule.Rule.TheVariants as rule
+use Rattle.cover_line.specs.declared.word.NarrowingKind.{NarrowingKind}
+use Rattle.cover_line.specs.declared.word.NarrowingKind.TheVariants as kind
 use Rattle.cover_line.specs.declared.word.Word.{Word}
 use Rattle.cover_line.specs.declared.word.Word.TheVariants as word
-use Rattle.cover_line.specs.Words.{RuleWord, empty_word, false_word, by_word, ban_word, cut_word, flip_word, open_word, word_of}
+use Rattle.cover_line.specs.Words.{RuleWord, pull_word, push_word, combine_word, void_word, void_no_word, void_combine_word, false_word, by_word, unit_word, ban_word, cut_word, flip_word, case_word, open_word, stuck_word, empty_word}
 
 -- a rule's pairs of an atom and its multiplier
 abbrev pub multipliers_of : List (ℕ × Dy) → Multipliers
 multipliers_of pairs = map (λ x. (x.0, dyadic_of x.1)) pairs
 
-abbrev pub atom_line : AtomRule → ℕ → Line
-atom_line atom.Pull j = pull j
-atom_line atom.Unit j = unit j
-atom_line atom.Void j = void j
-atom_line atom.Push j = push j
-atom_line atom.VoidNo j = void_no j
-atom_line atom.Case j = case j
-atom_line atom.Stuck j = stuck j
+abbrev pub narrowing_of : CodeNarrowing → Narrowing
+narrowing_of (narrowing.Pull j) = by_range j
+narrowing_of (narrowing.Push j) = by_off_range j
+narrowing_of (narrowing.Combine pairs) = by_combination (multipliers_of pairs.items)
 
-abbrev pub combination_line : CombinationRule → Multipliers → Line
-combination_line combination.Combine ms = combine ms
-combination_line combination.VoidCombine ms = void_combine ms
+abbrev pub ending_of : CodeEnding → Ending
+ending_of (ending.Void n) = void_by (narrowing_of n)
+ending_of ending.False = false_form
+ending_of (ending.By i) = by_lemma i
+
+abbrev pub marking_of : CodeMarking → Marking
+marking_of (marking.Unit j) = unit_atom j
+marking_of (marking.Ban j i) = ban_atom j i
+
+abbrev pub branching_of : CodeBranching → Branching
+branching_of (branching.Cut axis c) = cut_axis axis (dyadic_of c)
+branching_of (branching.Flip axis) = flip_axis axis
+branching_of (branching.Case j) = case_atom j
+
+abbrev pub staying_of : CodeStaying → Staying
+staying_of staying.Open = open_state
+staying_of (staying.Stuck j) = stuck_atom j
 
 abbrev pub line_of : Rule → Line
-line_of (rule.Atom r j) = atom_line r j
-line_of (rule.Combination r pairs) = combination_line r (multipliers_of pairs.items)
-line_of (rule.Ban j i) = ban j i
-line_of (rule.By i) = by i
-line_of (rule.Cut axis c) = cut axis (dyadic_of c)
-line_of (rule.Flip axis) = flip axis
-line_of rule.False = make_false
-line_of rule.Open = open_line
+line_of (rule.Narrow n) = narrow_by (narrowing_of n)
+line_of (rule.End e) = end_by (ending_of e)
+line_of (rule.Mark m) = mark_by (marking_of m)
+line_of (rule.Branch b) = branch_by (branching_of b)
+line_of (rule.Stay t) = stay_by (staying_of t)
 
--- the word of a group's lines is that of any one of them
+-- ---- words
+
+abbrev pub kind_word : NarrowingKind → RuleWord
+kind_word kind.Pull = pull_word
+kind_word kind.Push = push_word
+kind_word kind.Combine = combine_word
+
+-- where the narrowing leaves nothing
+abbrev pub voiding_kind_word : NarrowingKind → RuleWord
+voiding_kind_word kind.Pull = void_word
+voiding_kind_word kind.Push = void_no_word
+voiding_kind_word kind.Combine = void_combine_word
+
 abbrev pub rule_word : Word → RuleWord
-rule_word (word.Atom r) = word_of (atom_line r 0)
-rule_word (word.Combination r) = word_of (combination_line r [])
-rule_word word.Ban = ban_word
+rule_word (word.Narrow k) = kind_word k
+rule_word (word.Void k) = voiding_kind_word k
+rule_word word.False = false_word
 rule_word word.By = by_word
+rule_word word.Unit = unit_word
+rule_word word.Ban = ban_word
 rule_word word.Cut = cut_word
 rule_word word.Flip = flip_word
-rule_word word.False = false_word
+rule_word word.Case = case_word
 rule_word word.Open = open_word
+rule_word word.Stuck = stuck_word
 rule_word word.Empty = empty_word

@@ -1,7 +1,7 @@
 -- The lines of a cover as data: the first word of each, what stands behind it, and the lines that each word leads.
 use Rattle.std.specs.Prelude.{ℕ, List, [], ◌∷◌, codes}
 use Rattle.dyadic.specs.Rounding.{Dyadic}
-use Rattle.cover_line.specs.Line.{Multipliers, Line, pull, unit, void, push, void_no, combine, void_combine, ban, make_false, by, cut, flip, case, open_line, stuck}
+use Rattle.cover_line.specs.Line.{Multipliers, Narrowing, by_range, by_off_range, by_combination, Ending, void_by, false_form, by_lemma, Marking, unit_atom, ban_atom, Branching, cut_axis, flip_axis, case_atom, Staying, open_state, stuck_atom, Line, narrow_by, end_by, mark_by, branch_by, stay_by, pull, unit, void, push, void_no, combine, void_combine, ban, make_false, by, cut, flip, case, open_line, stuck}
 
 -- ---- first words
 
@@ -9,22 +9,41 @@ use Rattle.cover_line.specs.Line.{Multipliers, Line, pull, unit, void, push, voi
 pub data RuleWord : Type 0 where
   empty_word pull_word unit_word ban_word void_word push_word void_no_word false_word by_word cut_word flip_word case_word open_word stuck_word combine_word void_combine_word : RuleWord
 
+abbrev pub narrowing_word : Narrowing → RuleWord
+narrowing_word (by_range j) = pull_word
+narrowing_word (by_off_range j) = push_word
+narrowing_word (by_combination ms) = combine_word
+
+-- where the narrowing leaves nothing
+abbrev pub voiding_word : Narrowing → RuleWord
+voiding_word (by_range j) = void_word
+voiding_word (by_off_range j) = void_no_word
+voiding_word (by_combination ms) = void_combine_word
+
+abbrev pub ending_word : Ending → RuleWord
+ending_word (void_by n) = voiding_word n
+ending_word false_form = false_word
+ending_word (by_lemma i) = by_word
+
+abbrev pub marking_word : Marking → RuleWord
+marking_word (unit_atom j) = unit_word
+marking_word (ban_atom j i) = ban_word
+
+abbrev pub branching_word : Branching → RuleWord
+branching_word (cut_axis axis c) = cut_word
+branching_word (flip_axis axis) = flip_word
+branching_word (case_atom j) = case_word
+
+abbrev pub staying_word : Staying → RuleWord
+staying_word open_state = open_word
+staying_word (stuck_atom j) = stuck_word
+
 abbrev pub word_of : Line → RuleWord
-word_of (pull j) = pull_word
-word_of (unit j) = unit_word
-word_of (void j) = void_word
-word_of (push j) = push_word
-word_of (void_no j) = void_no_word
-word_of (case j) = case_word
-word_of (stuck j) = stuck_word
-word_of (by i) = by_word
-word_of (ban j i) = ban_word
-word_of (cut axis c) = cut_word
-word_of (flip axis) = flip_word
-word_of (combine ms) = combine_word
-word_of (void_combine ms) = void_combine_word
-word_of make_false = false_word
-word_of open_line = open_word
+word_of (narrow_by n) = narrowing_word n
+word_of (end_by e) = ending_word e
+word_of (mark_by m) = marking_word m
+word_of (branch_by b) = branching_word b
+word_of (stay_by t) = staying_word t
 
 -- their one spelling
 abbrev pub word_text : RuleWord → List ℕ
@@ -57,22 +76,35 @@ pub data Operands : Type 0 where
   of_axis_place : ℕ → Dyadic → Operands
   of_multipliers : Multipliers → Operands
 
+abbrev pub narrowing_operands : Narrowing → Operands
+narrowing_operands (by_range j) = of_atom j
+narrowing_operands (by_off_range j) = of_atom j
+narrowing_operands (by_combination ms) = of_multipliers ms
+
+abbrev pub ending_operands : Ending → Operands
+ending_operands (void_by n) = narrowing_operands n
+ending_operands false_form = of_nothing
+ending_operands (by_lemma i) = of_lemma i
+
+abbrev pub marking_operands : Marking → Operands
+marking_operands (unit_atom j) = of_atom j
+marking_operands (ban_atom j i) = of_atom_lemma j i
+
+abbrev pub branching_operands : Branching → Operands
+branching_operands (cut_axis axis c) = of_axis_place axis c
+branching_operands (flip_axis axis) = of_axis axis
+branching_operands (case_atom j) = of_atom j
+
+abbrev pub staying_operands : Staying → Operands
+staying_operands open_state = of_nothing
+staying_operands (stuck_atom j) = of_atom j
+
 abbrev pub operands_of : Line → Operands
-operands_of (pull j) = of_atom j
-operands_of (unit j) = of_atom j
-operands_of (void j) = of_atom j
-operands_of (push j) = of_atom j
-operands_of (void_no j) = of_atom j
-operands_of (case j) = of_atom j
-operands_of (stuck j) = of_atom j
-operands_of (by i) = of_lemma i
-operands_of (ban j i) = of_atom_lemma j i
-operands_of (cut axis c) = of_axis_place axis c
-operands_of (flip axis) = of_axis axis
-operands_of (combine ms) = of_multipliers ms
-operands_of (void_combine ms) = of_multipliers ms
-operands_of make_false = of_nothing
-operands_of open_line = of_nothing
+operands_of (narrow_by n) = narrowing_operands n
+operands_of (end_by e) = ending_operands e
+operands_of (mark_by m) = marking_operands m
+operands_of (branch_by b) = branching_operands b
+operands_of (stay_by t) = staying_operands t
 
 -- the lines that a word leads, by their operands
 pub data Form : Type 0 where

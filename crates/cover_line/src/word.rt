@@ -1,60 +1,54 @@
 // The first words of a tree's lines.
 ghost use Rattle.std.specs.Prelude.{◌≡◌, IsTrue, ◌↔◌};
 ghost use Rattle.cover_line.specs.Answers.{IsWordIn};
-ghost use Rattle.cover_line.specs.Views.{atom_line, combination_line, rule_word};
-ghost use Rattle.cover_line.specs.Words.{word_of, word_text};
+ghost use Rattle.cover_line.specs.Views.{rule_word};
+ghost use Rattle.cover_line.specs.Words.{word_text};
 
-use crate::rule::{AtomRule, CombinationRule};
+/// What a line narrows by; a word for each says that it leaves a smaller box, and one that it leaves nothing.
+#[derive(Clone, Copy, Debug, PartialEq, Eq)]
+pub enum NarrowingKind {
+    Pull,
+    Push,
+    Combine,
+}
 
 /// The first word of a line of a tree.
 #[derive(Clone, Copy, Debug, PartialEq, Eq)]
 pub enum Word {
-    Atom(AtomRule),
-    Combination(CombinationRule),
-    Ban,
+    Narrow(NarrowingKind),
+    Void(NarrowingKind),
+    False,
     By,
+    Unit,
+    Ban,
     Cut,
     Flip,
-    False,
+    Case,
     Open,
+    Stuck,
     /// Of the line for crossed bounds.
     Empty,
 }
 
 // Each word once.
 const WORDS: [Word; 16] = [
-    Word::Atom(AtomRule::Pull),
-    Word::Atom(AtomRule::Unit),
-    Word::Atom(AtomRule::Void),
-    Word::Atom(AtomRule::Push),
-    Word::Atom(AtomRule::VoidNo),
-    Word::Atom(AtomRule::Case),
-    Word::Atom(AtomRule::Stuck),
-    Word::Combination(CombinationRule::Combine),
-    Word::Combination(CombinationRule::VoidCombine),
-    Word::Ban,
+    Word::Narrow(NarrowingKind::Pull),
+    Word::Narrow(NarrowingKind::Push),
+    Word::Narrow(NarrowingKind::Combine),
+    Word::Void(NarrowingKind::Pull),
+    Word::Void(NarrowingKind::Push),
+    Word::Void(NarrowingKind::Combine),
+    Word::False,
     Word::By,
+    Word::Unit,
+    Word::Ban,
     Word::Cut,
     Word::Flip,
-    Word::False,
+    Word::Case,
     Word::Open,
+    Word::Stuck,
     Word::Empty,
 ];
-
-// The spelling of the word of a rule of one atom.
-fn atom_text(rule: AtomRule) -> &'static str
-    ensures { result.now ≡ word_text (word_of (atom_line rule 0)) }
-{
-    match rule {
-        AtomRule::Pull => "pull",
-        AtomRule::Unit => "unit",
-        AtomRule::Void => "void",
-        AtomRule::Push => "push",
-        AtomRule::VoidNo => "voidno",
-        AtomRule::Case => "case",
-        AtomRule::Stuck => "stuck",
-    }
-}
 
 impl Word {
     /// Its one spelling.
@@ -62,15 +56,21 @@ impl Word {
         ensures { result.now ≡ word_text (rule_word self) }
     {
         match self {
-            Word::Atom(rule) => atom_text(rule),
-            Word::Combination(CombinationRule::Combine) => "comb",
-            Word::Combination(CombinationRule::VoidCombine) => "voidcomb",
-            Word::Ban => "ban",
+            Word::Narrow(NarrowingKind::Pull) => "pull",
+            Word::Narrow(NarrowingKind::Push) => "push",
+            Word::Narrow(NarrowingKind::Combine) => "comb",
+            Word::Void(NarrowingKind::Pull) => "void",
+            Word::Void(NarrowingKind::Push) => "voidno",
+            Word::Void(NarrowingKind::Combine) => "voidcomb",
+            Word::False => "false",
             Word::By => "by",
+            Word::Unit => "unit",
+            Word::Ban => "ban",
             Word::Cut => "cut",
             Word::Flip => "flip",
-            Word::False => "false",
+            Word::Case => "case",
             Word::Open => "open",
+            Word::Stuck => "stuck",
             Word::Empty => "empty",
         }
     }
