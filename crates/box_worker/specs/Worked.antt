@@ -5,7 +5,7 @@ use Rattle.poly_graph.specs.ProblemViews.{Parts, problem_of}
 use Rattle.interval_model.specs.Space.{Space, middle, space_within}
 use Rattle.cover_model.specs.State.{State, Loosenings, IsLemma, covers, may, sure}
 use Rattle.cover_model.specs.Honest.{not_shown}
-use Rattle.cover_model.specs.Rules.{Line, make_false, by}
+use Rattle.cover_model.specs.Rules.{Line, make_false, by, end_by, false_form, by_lemma}
 use Rattle.cover_model.specs.Fits.{FitsProblem, IsShownAt}
 use Rattle.cover_data.specs.declared.margins.Margins.{Margins}
 use Rattle.cover_data.specs.declared.margins.Options.{Options}
@@ -43,11 +43,11 @@ has_no_step [] = true
 has_no_step (l ∷ ls) = false
 
 abbrev pub is_false : Option Line → Bool
-is_false (Some make_false) = true
+is_false (Some (end_by false_form)) = true
 is_false end = false
 
 abbrev pub is_by : Option Line → Bool
-is_by (Some (by i)) = true
+is_by (Some (end_by (by_lemma i))) = true
 is_by end = false
 
 -- the run is the one line `false`, or ends by a lemma

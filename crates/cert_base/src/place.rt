@@ -14,7 +14,7 @@ ghost use Rattle.cert_base.specs.Views.{place_of};
 use cert_check::Stand;
 use cert_read::Line;
 use cover_data::State;
-use cover_line::{AtomRule, Rule};
+use cover_line::Rule;
 use form_truth::{Root, root_space};
 use ival::Space;
 use poly_graph::{Lits, Problem};
@@ -51,8 +51,7 @@ fn is_leaving(rule: &Rule) -> bool
     ensures { result ≡ is_leaving (rule_of rule.now) }
 {
     match rule {
-        Rule::Open => true,
-        Rule::Atom(AtomRule::Stuck, _) => true,
+        Rule::Stay(_) => true,
         _ => false,
     }
 }

@@ -14,7 +14,7 @@ use Rattle.poly_graph.specs.ProblemViews.{Parts, problem_of}
 use Rattle.poly_graph.specs.Marks.{Mark, marked_yes, marked_no, unmarked}
 use Rattle.cover_model.specs.State.{State, Loosenings, margin_of, in_yes, undecided, with_mark, with_yes, with_no, with_space, may, root_state}
 use Rattle.cover_model.specs.Combination.{Expansion, expansion, allowed_range, marked_range, range_of, tightened, with_axis, with_intervals, left_of_space}
-use Rattle.cover_model.specs.Rules.{Line, pull, unit, ban, void, push, void_no, combine, void_combine, make_false, by, cut, flip, case, open_line, stuck, Left, closed, one, two, stays, narrowing, narrowing_off, combining, can_combine, can_push, lemma_covers, with_changed, when, pulled, voided, is_stuck_atom, rule}
+use Rattle.cover_model.specs.Rules.{Line, Left, closed, one, two, stays, narrowing, narrowing_off, combining, can_combine, can_push, lemma_covers, with_changed, when, pulled, voided, is_stuck_atom, rule, narrow_by, by_range, by_off_range, by_combination, end_by, void_by, false_form, by_lemma, mark_by, unit_atom, ban_atom, branch_by, cut_axis, flip_axis, case_atom, stay_by, open_state, stuck_atom}
 use Rattle.cert_check.specs.States.{Fits}
 use Rattle.cert_check.specs.Waiting.{FitsLeft}
 
@@ -88,28 +88,28 @@ module _ (p : Parts) where
   voided-fits (Some space) = tt
 
   pub rule_fits : (s : Loosenings) (lemmas : List State) (S : State) (l : Line) → Fits p S → FitsLeft p (rule (problem_of p) s lemmas S l)
-  rule_fits s lemmas S (pull j) h =
+  rule_fits s lemmas S (narrow_by (by_range j)) h =
       let ns : List (Option Interval) = narrowed p.nodes (enclosures S.space p.nodes) (atom_at (problem_of p) j).0 (range (margin_of s) (atom_at (problem_of p) j).1) in
       cond-fits (in_yes S j) (pulled S (narrowing (problem_of p) s S j)) (pulled-fits S (some_empty ns) (with_axes p.nodes ns S.space) (length-axes p.nodes ns S.space) h)
-  rule_fits s lemmas S (unit j) h = when-fits (undecided S j && not (may (problem_of p) s (with_no S j))) (one (with_yes S j)) (mark_fits S j marked_yes h)
-  rule_fits s lemmas S (ban j i) h = when-fits (undecided S j && lemma_covers lemmas i (with_yes S j)) (one (with_no S j)) (mark_fits S j marked_no h)
-  rule_fits s lemmas S (void j) h = cond-fits (in_yes S j) (voided (narrowing (problem_of p) s S j)) (voided-fits (narrowing (problem_of p) s S j))
-  rule_fits s lemmas S (push j) h =
+  rule_fits s lemmas S (mark_by (unit_atom j)) h = when-fits (undecided S j && not (may (problem_of p) s (with_no S j))) (one (with_yes S j)) (mark_fits S j marked_yes h)
+  rule_fits s lemmas S (mark_by (ban_atom j i)) h = when-fits (undecided S j && lemma_covers lemmas i (with_yes S j)) (one (with_no S j)) (mark_fits S j marked_no h)
+  rule_fits s lemmas S (end_by (void_by (by_range j))) h = cond-fits (in_yes S j) (voided (narrowing (problem_of p) s S j)) (voided-fits (narrowing (problem_of p) s S j))
+  rule_fits s lemmas S (narrow_by (by_off_range j)) h =
       let ns : List (Option Interval) = narrowed p.nodes (enclosures S.space p.nodes) (atom_at (problem_of p) j).0 (off_range (margin_of s) (atom_at (problem_of p) j).1) in
       cond-fits (can_push (problem_of p) s S j) (pulled S (narrowing_off (problem_of p) s S j)) (pulled-fits S (some_empty ns) (with_axes p.nodes ns S.space) (length-axes p.nodes ns S.space) h)
-  rule_fits s lemmas S (void_no j) h = cond-fits (can_push (problem_of p) s S j) (voided (narrowing_off (problem_of p) s S j)) (voided-fits (narrowing_off (problem_of p) s S j))
-  rule_fits s lemmas S (combine ms) h = cond-fits (can_combine (problem_of p) s S ms) (pulled S (combining (problem_of p) s S ms)) (left-fits S (combining (problem_of p) s S ms) (λ space e.
+  rule_fits s lemmas S (end_by (void_by (by_off_range j))) h = cond-fits (can_push (problem_of p) s S j) (voided (narrowing_off (problem_of p) s S j)) (voided-fits (narrowing_off (problem_of p) s S j))
+  rule_fits s lemmas S (narrow_by (by_combination ms)) h = cond-fits (can_combine (problem_of p) s S ms) (pulled S (combining (problem_of p) s S ms)) (left-fits S (combining (problem_of p) s S ms) (λ space e.
       length-left S.space (middle S.space) (allowed_range (marked_range (problem_of p) (margin_of s) S.marks) ms) (expansion (problem_of p) S.space (middle S.space) ms) space e) h)
-  rule_fits s lemmas S (void_combine ms) h = cond-fits (can_combine (problem_of p) s S ms) (voided (combining (problem_of p) s S ms)) (voided-fits (combining (problem_of p) s S ms))
-  rule_fits s lemmas S make_false h = when-fits (not (may (problem_of p) s S)) closed tt
-  rule_fits s lemmas S (by i) h = when-fits (lemma_covers lemmas i S) closed tt
-  rule_fits s lemmas S (cut axis c) h = when-fits (test_axis (strictly_inside c) axis S.space) (two (with_changed S (lower_part c) axis) (with_changed S (upper_part c) axis))
+  rule_fits s lemmas S (end_by (void_by (by_combination ms))) h = cond-fits (can_combine (problem_of p) s S ms) (voided (combining (problem_of p) s S ms)) (voided-fits (combining (problem_of p) s S ms))
+  rule_fits s lemmas S (end_by false_form) h = when-fits (not (may (problem_of p) s S)) closed tt
+  rule_fits s lemmas S (end_by (by_lemma i)) h = when-fits (lemma_covers lemmas i S) closed tt
+  rule_fits s lemmas S (branch_by (cut_axis axis c)) h = when-fits (test_axis (strictly_inside c) axis S.space) (two (with_changed S (lower_part c) axis) (with_changed S (upper_part c) axis))
       (changed-fits S (lower_part c) axis h, changed-fits S (upper_part c) axis h)
-  rule_fits s lemmas S (flip axis) h = when-fits (test_axis is_undecided axis S.space) (two (with_changed S (keep false) axis) (with_changed S (keep true) axis))
+  rule_fits s lemmas S (branch_by (flip_axis axis)) h = when-fits (test_axis is_undecided axis S.space) (two (with_changed S (keep false) axis) (with_changed S (keep true) axis))
       (changed-fits S (keep false) axis h, changed-fits S (keep true) axis h)
-  rule_fits s lemmas S (case j) h = when-fits (undecided S j) (two (with_yes S j) (with_no S j)) (mark_fits S j marked_yes h, mark_fits S j marked_no h)
-  rule_fits s lemmas S open_line h = tt
-  rule_fits s lemmas S (stuck j) h = when-fits (is_stuck_atom (problem_of p) s S j) stays tt
+  rule_fits s lemmas S (branch_by (case_atom j)) h = when-fits (undecided S j) (two (with_yes S j) (with_no S j)) (mark_fits S j marked_yes h, mark_fits S j marked_no h)
+  rule_fits s lemmas S (stay_by open_state) h = tt
+  rule_fits s lemmas S (stay_by (stuck_atom j)) h = when-fits (is_stuck_atom (problem_of p) s S j) stays tt
 
   length-none : (n : ℕ) → length (replicate n unmarked) ≡ n
   length-none zero = refl

@@ -39,20 +39,30 @@ fn are_atoms(problem: &Problem, pairs: &[(u32, Dy)]) -> bool
     true
 }
 
+// Whether the atoms that it narrows by are there.
+fn names_atoms(problem: &Problem, narrowing: &Narrowing) -> bool
+    ensures { result ≡ are_there (problem_of problem.now)
+        (narrowing_operands (narrowing_of narrowing.now)) }
+{
+    match narrowing {
+        Narrowing::Pull(j) | Narrowing::Push(j) => is_atom(problem, *j),
+        Narrowing::Combine(pairs) => are_atoms(problem, pairs),
+    }
+}
+
 /// Whether the atoms or the axis that the line names are there.
-#[tactic(auto, using(cover_line::proofs::Groups::atom_operands, cover_line::proofs::Groups::combination_operands))]
 pub fn names_well(problem: &Problem, step: &Rule) -> bool
     ensures { result ≡ names_well (problem_of problem.now) (rule_of step.now) }
 {
     match step {
-        Rule::Atom(_, j) => is_atom(problem, *j),
-        Rule::Combination(_, pairs) => are_atoms(problem, pairs),
-        Rule::Ban(j, _) => is_atom(problem, *j),
-        Rule::Cut(axis, _) => is_axis(problem, *axis),
-        Rule::Flip(axis) => is_axis(problem, *axis),
-        Rule::By(_) => true,
-        Rule::False => true,
-        Rule::Open => true,
+        Rule::Narrow(narrowing) => names_atoms(problem, narrowing),
+        Rule::End(Ending::Void(narrowing)) => names_atoms(problem, narrowing),
+        Rule::End(Ending::False | Ending::By(_)) => true,
+        Rule::Mark(Marking::Unit(j) | Marking::Ban(j, _)) => is_atom(problem, *j),
+        Rule::Branch(Branching::Cut(axis, _) | Branching::Flip(axis)) => is_axis(problem, *axis),
+        Rule::Branch(Branching::Case(j)) => is_atom(problem, *j),
+        Rule::Stay(Staying::Open) => true,
+        Rule::Stay(Staying::Stuck(j)) => is_atom(problem, *j),
     }
 }
 

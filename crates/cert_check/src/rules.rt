@@ -17,7 +17,7 @@ use crate::moves::{ban, unit};
 use crate::narrowing::{Narrowing, emptied, narrowed};
 use crate::state::State;
 use crate::tools::Tools;
-use cover_line::{AtomRule, CombinationRule, Rule};
+use cover_line::{Branching, Ending, Marking, Rule, Staying};
 use poly_graph::Problem;
 use std::alloc::{AllocError, Global};
 
@@ -40,32 +40,16 @@ pub fn rule(
     ensures serves { Serves problem.now tools.new }
 {
     match step {
-        Rule::Atom(AtomRule::Pull, j) => {
-            Ok(narrowed(problem, tools, s, state, Narrowing::Range(*j)))
-        }
-        Rule::Atom(AtomRule::Unit, j) => Ok(unit(problem, tools, s, state, *j)),
-        Rule::Atom(AtomRule::Void, j) => {
-            Ok(emptied(problem, tools, s, state, Narrowing::Range(*j)))
-        }
-        Rule::Atom(AtomRule::Push, j) => {
-            Ok(narrowed(problem, tools, s, state, Narrowing::OffRange(*j)))
-        }
-        Rule::Atom(AtomRule::VoidNo, j) => {
-            Ok(emptied(problem, tools, s, state, Narrowing::OffRange(*j)))
-        }
-        Rule::Atom(AtomRule::Case, j) => case(alloc, state, *j),
-        Rule::Atom(AtomRule::Stuck, j) => Ok(stuck(problem, tools, s, state, *j)),
-        Rule::Combination(CombinationRule::Combine, pairs) => {
-            Ok(narrowed(problem, tools, s, state, Narrowing::Combination(pairs)))
-        }
-        Rule::Combination(CombinationRule::VoidCombine, pairs) => {
-            Ok(emptied(problem, tools, s, state, Narrowing::Combination(pairs)))
-        }
-        Rule::Ban(j, i) => ban(alloc, problem, lemmas, state, *j, *i),
-        Rule::By(i) => by(alloc, problem, lemmas, state, *i),
-        Rule::Cut(axis, place) => cut(alloc, state, *axis, *place),
-        Rule::Flip(axis) => flip(alloc, state, *axis),
-        Rule::False => Ok(make_false(problem, tools, s, state)),
-        Rule::Open => Ok(Some(Left::Stays)),
+        Rule::Narrow(narrowing) => Ok(narrowed(problem, tools, s, state, narrowing)),
+        Rule::End(Ending::Void(narrowing)) => Ok(emptied(problem, tools, s, state, narrowing)),
+        Rule::End(Ending::False) => Ok(make_false(problem, tools, s, state)),
+        Rule::End(Ending::By(i)) => by(alloc, problem, lemmas, state, *i),
+        Rule::Mark(Marking::Unit(j)) => Ok(unit(problem, tools, s, state, *j)),
+        Rule::Mark(Marking::Ban(j, i)) => ban(alloc, problem, lemmas, state, *j, *i),
+        Rule::Branch(Branching::Cut(axis, place)) => cut(alloc, state, *axis, *place),
+        Rule::Branch(Branching::Flip(axis)) => flip(alloc, state, *axis),
+        Rule::Branch(Branching::Case(j)) => case(alloc, state, *j),
+        Rule::Stay(Staying::Open) => Ok(Some(Left::Stays)),
+        Rule::Stay(Staying::Stuck(j)) => Ok(stuck(problem, tools, s, state, *j)),
     }
 }

@@ -9,7 +9,7 @@ use Rattle.std.proofs.lemmas.Option.{slice_get_within, get_or_from_slice_get, sl
 use Rattle.std.proofs.lemmas.Fmt.{digits_decimal}
 use Rattle.std.proofs.lemmas.Str.Parse.{IsNumeralModel, tells_all_ascii_digits, numerals_by_value}
 use Rattle.cover_line.specs.Words.{RuleWord, empty_word, pull_word, unit_word, ban_word, void_word, push_word, void_no_word, false_word, by_word, cut_word, flip_word, case_word, open_word, stuck_word, combine_word, void_combine_word, word_of, word_text}
-use Rattle.cover_model.specs.Rules.{Line, pull, unit, void, push, void_no, combine, void_combine, ban, make_false, by, cut, flip, case, open_line, stuck}
+use Rattle.cover_model.specs.Rules.{Line, ban, by, narrow_by, by_range, by_off_range, by_combination, end_by, void_by, false_form, by_lemma, mark_by, unit_atom, ban_atom, branch_by, cut_axis, flip_axis, case_atom, stay_by, open_state, stuck_atom}
 use Rattle.cert_read.specs.CertLine.{CertLine, version, margin, delta, bound, lower, goal, over, checks, cover, keep, point_word, tree_word, end_word, lemma, real_interval, real_value, bool_value, yes_list, no_list, rule_line, crossing}
 use Rattle.cert_read.specs.LineText.{IsSpelled, spaced, line_words, line_text}
 use Rattle.cert_read.specs.Lines.{words_of}
@@ -172,21 +172,21 @@ same_word v w e = sym (decoded-text v) ∙ ap (λ (t : List ℕ). decoded t) e �
 
 -- a line that leaves its state open is that word alone
 pub open_alone : (r : Line) → open_word ≡ word_of r → rule_text r ≡ word_text open_word
-open_alone (pull j) e = absurd (cc)
-open_alone (unit j) e = absurd (cc)
-open_alone (void j) e = absurd (cc)
-open_alone (push j) e = absurd (cc)
-open_alone (void_no j) e = absurd (cc)
-open_alone (combine ms) e = absurd (cc)
-open_alone (void_combine ms) e = absurd (cc)
-open_alone (ban j i) e = absurd (cc)
-open_alone make_false e = absurd (cc)
-open_alone (by i) e = absurd (cc)
-open_alone (cut axis c) e = absurd (cc)
-open_alone (flip axis) e = absurd (cc)
-open_alone (case j) e = absurd (cc)
-open_alone open_line e = refl
-open_alone (stuck j) e = absurd (cc)
+open_alone (narrow_by (by_range j)) e = absurd (cc)
+open_alone (mark_by (unit_atom j)) e = absurd (cc)
+open_alone (end_by (void_by (by_range j))) e = absurd (cc)
+open_alone (narrow_by (by_off_range j)) e = absurd (cc)
+open_alone (end_by (void_by (by_off_range j))) e = absurd (cc)
+open_alone (narrow_by (by_combination ms)) e = absurd (cc)
+open_alone (end_by (void_by (by_combination ms))) e = absurd (cc)
+open_alone (mark_by (ban_atom j i)) e = absurd (cc)
+open_alone (end_by false_form) e = absurd (cc)
+open_alone (end_by (by_lemma i)) e = absurd (cc)
+open_alone (branch_by (cut_axis axis c)) e = absurd (cc)
+open_alone (branch_by (flip_axis axis)) e = absurd (cc)
+open_alone (branch_by (case_atom j)) e = absurd (cc)
+open_alone (stay_by open_state) e = refl
+open_alone (stay_by (stuck_atom j)) e = absurd (cc)
 
 pub names_first : (l : CertLine) → (bytes_eq (first_of l) (word_text by_word) || bytes_eq (first_of l) (word_text ban_word)) ≡ does_name l
 names_first (version n) = refl
@@ -219,21 +219,21 @@ names_from l text w ws e h t u f g =
 
 -- a line whose word names none names none
 pub names_none : (r : Line) → names_by_word (word_of r) ≡ false → (f : ℕ → ℕ) → (lemma_named r ≡ None) × (line_by f r ≡ r)
-names_none (pull j) h f = (refl, refl)
-names_none (unit j) h f = (refl, refl)
-names_none (void j) h f = (refl, refl)
-names_none (push j) h f = (refl, refl)
-names_none (void_no j) h f = (refl, refl)
-names_none (combine ms) h f = (refl, refl)
-names_none (void_combine ms) h f = (refl, refl)
-names_none (ban j i) h f = absurd (cc)
-names_none make_false h f = (refl, refl)
-names_none (by i) h f = absurd (cc)
-names_none (cut axis c) h f = (refl, refl)
-names_none (flip axis) h f = (refl, refl)
-names_none (case j) h f = (refl, refl)
-names_none open_line h f = (refl, refl)
-names_none (stuck j) h f = (refl, refl)
+names_none (narrow_by (by_range j)) h f = (refl, refl)
+names_none (mark_by (unit_atom j)) h f = (refl, refl)
+names_none (end_by (void_by (by_range j))) h f = (refl, refl)
+names_none (narrow_by (by_off_range j)) h f = (refl, refl)
+names_none (end_by (void_by (by_off_range j))) h f = (refl, refl)
+names_none (narrow_by (by_combination ms)) h f = (refl, refl)
+names_none (end_by (void_by (by_combination ms))) h f = (refl, refl)
+names_none (mark_by (ban_atom j i)) h f = absurd (cc)
+names_none (end_by false_form) h f = (refl, refl)
+names_none (end_by (by_lemma i)) h f = absurd (cc)
+names_none (branch_by (cut_axis axis c)) h f = (refl, refl)
+names_none (branch_by (flip_axis axis)) h f = (refl, refl)
+names_none (branch_by (case_atom j)) h f = (refl, refl)
+names_none (stay_by open_state) h f = (refl, refl)
+names_none (stay_by (stuck_atom j)) h f = (refl, refl)
 
 pub none_named : (l : CertLine) → does_name l ≡ false → (f : ℕ → ℕ) → (lemma_named_in l ≡ None) × (renumbered f l ≡ l)
 none_named (version n) h f = (refl, refl)
@@ -259,21 +259,21 @@ none_named over h f = (refl, refl)
 none_named (crossing i) h f = (refl, refl)
 
 names-one : (r : Line) → names_by_word (word_of r) ≡ true → (i : ℕ) × (lemma_named r ≡ Some i)
-names-one (pull j) h = absurd (cc)
-names-one (unit j) h = absurd (cc)
-names-one (void j) h = absurd (cc)
-names-one (push j) h = absurd (cc)
-names-one (void_no j) h = absurd (cc)
-names-one (combine ms) h = absurd (cc)
-names-one (void_combine ms) h = absurd (cc)
-names-one (ban j i) h = (i, refl)
-names-one make_false h = absurd (cc)
-names-one (by i) h = (i, refl)
-names-one (cut axis c) h = absurd (cc)
-names-one (flip axis) h = absurd (cc)
-names-one (case j) h = absurd (cc)
-names-one open_line h = absurd (cc)
-names-one (stuck j) h = absurd (cc)
+names-one (narrow_by (by_range j)) h = absurd (cc)
+names-one (mark_by (unit_atom j)) h = absurd (cc)
+names-one (end_by (void_by (by_range j))) h = absurd (cc)
+names-one (narrow_by (by_off_range j)) h = absurd (cc)
+names-one (end_by (void_by (by_off_range j))) h = absurd (cc)
+names-one (narrow_by (by_combination ms)) h = absurd (cc)
+names-one (end_by (void_by (by_combination ms))) h = absurd (cc)
+names-one (mark_by (ban_atom j i)) h = (i, refl)
+names-one (end_by false_form) h = absurd (cc)
+names-one (end_by (by_lemma i)) h = (i, refl)
+names-one (branch_by (cut_axis axis c)) h = absurd (cc)
+names-one (branch_by (flip_axis axis)) h = absurd (cc)
+names-one (branch_by (case_atom j)) h = absurd (cc)
+names-one (stay_by open_state) h = absurd (cc)
+names-one (stay_by (stuck_atom j)) h = absurd (cc)
 
 pub one_named : (l : CertLine) → does_name l ≡ true → (r : Line) × (i : ℕ) × (l ≡ rule_line r) × (lemma_named r ≡ Some i)
 one_named (version n) h = absurd (cc)
@@ -302,78 +302,78 @@ one_named (crossing i) h = absurd (cc)
 
 -- what stands before the number up to its space
 pub front_ends : (r : Line) (i : ℕ) → lemma_named r ≡ Some i → (front : List ℕ) × (lemma_front r ≡ front ++ (32 ∷ []))
-front_ends (pull j) i h = absurd (let e : ◌≡◌ {A = Option ℕ} None (Some i) = h in cc)
-front_ends (unit j) i h = absurd (let e : ◌≡◌ {A = Option ℕ} None (Some i) = h in cc)
-front_ends (void j) i h = absurd (let e : ◌≡◌ {A = Option ℕ} None (Some i) = h in cc)
-front_ends (push j) i h = absurd (let e : ◌≡◌ {A = Option ℕ} None (Some i) = h in cc)
-front_ends (void_no j) i h = absurd (let e : ◌≡◌ {A = Option ℕ} None (Some i) = h in cc)
-front_ends (combine ms) i h = absurd (let e : ◌≡◌ {A = Option ℕ} None (Some i) = h in cc)
-front_ends (void_combine ms) i h = absurd (let e : ◌≡◌ {A = Option ℕ} None (Some i) = h in cc)
-front_ends (ban j k) i h = (codes "ban " ++ decimal j, refl)
-front_ends make_false i h = absurd (let e : ◌≡◌ {A = Option ℕ} None (Some i) = h in cc)
-front_ends (by k) i h = (codes "by", refl)
-front_ends (cut axis c) i h = absurd (let e : ◌≡◌ {A = Option ℕ} None (Some i) = h in cc)
-front_ends (flip axis) i h = absurd (let e : ◌≡◌ {A = Option ℕ} None (Some i) = h in cc)
-front_ends (case j) i h = absurd (let e : ◌≡◌ {A = Option ℕ} None (Some i) = h in cc)
-front_ends open_line i h = absurd (let e : ◌≡◌ {A = Option ℕ} None (Some i) = h in cc)
-front_ends (stuck j) i h = absurd (let e : ◌≡◌ {A = Option ℕ} None (Some i) = h in cc)
+front_ends (narrow_by (by_range j)) i h = absurd (let e : ◌≡◌ {A = Option ℕ} None (Some i) = h in cc)
+front_ends (mark_by (unit_atom j)) i h = absurd (let e : ◌≡◌ {A = Option ℕ} None (Some i) = h in cc)
+front_ends (end_by (void_by (by_range j))) i h = absurd (let e : ◌≡◌ {A = Option ℕ} None (Some i) = h in cc)
+front_ends (narrow_by (by_off_range j)) i h = absurd (let e : ◌≡◌ {A = Option ℕ} None (Some i) = h in cc)
+front_ends (end_by (void_by (by_off_range j))) i h = absurd (let e : ◌≡◌ {A = Option ℕ} None (Some i) = h in cc)
+front_ends (narrow_by (by_combination ms)) i h = absurd (let e : ◌≡◌ {A = Option ℕ} None (Some i) = h in cc)
+front_ends (end_by (void_by (by_combination ms))) i h = absurd (let e : ◌≡◌ {A = Option ℕ} None (Some i) = h in cc)
+front_ends (mark_by (ban_atom j k)) i h = (codes "ban " ++ decimal j, refl)
+front_ends (end_by false_form) i h = absurd (let e : ◌≡◌ {A = Option ℕ} None (Some i) = h in cc)
+front_ends (end_by (by_lemma k)) i h = (codes "by", refl)
+front_ends (branch_by (cut_axis axis c)) i h = absurd (let e : ◌≡◌ {A = Option ℕ} None (Some i) = h in cc)
+front_ends (branch_by (flip_axis axis)) i h = absurd (let e : ◌≡◌ {A = Option ℕ} None (Some i) = h in cc)
+front_ends (branch_by (case_atom j)) i h = absurd (let e : ◌≡◌ {A = Option ℕ} None (Some i) = h in cc)
+front_ends (stay_by open_state) i h = absurd (let e : ◌≡◌ {A = Option ℕ} None (Some i) = h in cc)
+front_ends (stay_by (stuck_atom j)) i h = absurd (let e : ◌≡◌ {A = Option ℕ} None (Some i) = h in cc)
 
 -- the line with another number
 pub front_and_number : (r : Line) (i : ℕ) → lemma_named r ≡ Some i → (f : ℕ → ℕ) → rule_text (line_by f r) ≡ lemma_front r ++ decimal (f i)
-front_and_number (pull j) i h f = absurd (let e : ◌≡◌ {A = Option ℕ} None (Some i) = h in cc)
-front_and_number (unit j) i h f = absurd (let e : ◌≡◌ {A = Option ℕ} None (Some i) = h in cc)
-front_and_number (void j) i h f = absurd (let e : ◌≡◌ {A = Option ℕ} None (Some i) = h in cc)
-front_and_number (push j) i h f = absurd (let e : ◌≡◌ {A = Option ℕ} None (Some i) = h in cc)
-front_and_number (void_no j) i h f = absurd (let e : ◌≡◌ {A = Option ℕ} None (Some i) = h in cc)
-front_and_number (combine ms) i h f = absurd (let e : ◌≡◌ {A = Option ℕ} None (Some i) = h in cc)
-front_and_number (void_combine ms) i h f = absurd (let e : ◌≡◌ {A = Option ℕ} None (Some i) = h in cc)
-front_and_number (ban j k) i h f =
+front_and_number (narrow_by (by_range j)) i h f = absurd (let e : ◌≡◌ {A = Option ℕ} None (Some i) = h in cc)
+front_and_number (mark_by (unit_atom j)) i h f = absurd (let e : ◌≡◌ {A = Option ℕ} None (Some i) = h in cc)
+front_and_number (end_by (void_by (by_range j))) i h f = absurd (let e : ◌≡◌ {A = Option ℕ} None (Some i) = h in cc)
+front_and_number (narrow_by (by_off_range j)) i h f = absurd (let e : ◌≡◌ {A = Option ℕ} None (Some i) = h in cc)
+front_and_number (end_by (void_by (by_off_range j))) i h f = absurd (let e : ◌≡◌ {A = Option ℕ} None (Some i) = h in cc)
+front_and_number (narrow_by (by_combination ms)) i h f = absurd (let e : ◌≡◌ {A = Option ℕ} None (Some i) = h in cc)
+front_and_number (end_by (void_by (by_combination ms))) i h f = absurd (let e : ◌≡◌ {A = Option ℕ} None (Some i) = h in cc)
+front_and_number (mark_by (ban_atom j k)) i h f =
     let e : k ≡ i = cc in
     ap (λ (xs : List ℕ). codes "ban " ++ xs) (sym (append_assoc (decimal j) (32 ∷ []) (decimal (f k)))) ∙ ap (λ (n : ℕ). (codes "ban " ++ (decimal j ++ (32 ∷ []))) ++ decimal (f n)) e
-front_and_number make_false i h f = absurd (let e : ◌≡◌ {A = Option ℕ} None (Some i) = h in cc)
-front_and_number (by k) i h f = let e : k ≡ i = cc in ap (λ (n : ℕ). codes "by " ++ decimal (f n)) e
-front_and_number (cut axis c) i h f = absurd (let e : ◌≡◌ {A = Option ℕ} None (Some i) = h in cc)
-front_and_number (flip axis) i h f = absurd (let e : ◌≡◌ {A = Option ℕ} None (Some i) = h in cc)
-front_and_number (case j) i h f = absurd (let e : ◌≡◌ {A = Option ℕ} None (Some i) = h in cc)
-front_and_number open_line i h f = absurd (let e : ◌≡◌ {A = Option ℕ} None (Some i) = h in cc)
-front_and_number (stuck j) i h f = absurd (let e : ◌≡◌ {A = Option ℕ} None (Some i) = h in cc)
+front_and_number (end_by false_form) i h f = absurd (let e : ◌≡◌ {A = Option ℕ} None (Some i) = h in cc)
+front_and_number (end_by (by_lemma k)) i h f = let e : k ≡ i = cc in ap (λ (n : ℕ). codes "by " ++ decimal (f n)) e
+front_and_number (branch_by (cut_axis axis c)) i h f = absurd (let e : ◌≡◌ {A = Option ℕ} None (Some i) = h in cc)
+front_and_number (branch_by (flip_axis axis)) i h f = absurd (let e : ◌≡◌ {A = Option ℕ} None (Some i) = h in cc)
+front_and_number (branch_by (case_atom j)) i h f = absurd (let e : ◌≡◌ {A = Option ℕ} None (Some i) = h in cc)
+front_and_number (stay_by open_state) i h f = absurd (let e : ◌≡◌ {A = Option ℕ} None (Some i) = h in cc)
+front_and_number (stay_by (stuck_atom j)) i h f = absurd (let e : ◌≡◌ {A = Option ℕ} None (Some i) = h in cc)
 
 same-line : (r : Line) → line_by (λ n. n) r ≡ r
-same-line (pull j) = refl
-same-line (unit j) = refl
-same-line (void j) = refl
-same-line (push j) = refl
-same-line (void_no j) = refl
-same-line (combine ms) = refl
-same-line (void_combine ms) = refl
-same-line (ban j i) = refl
-same-line make_false = refl
-same-line (by i) = refl
-same-line (cut axis c) = refl
-same-line (flip axis) = refl
-same-line (case j) = refl
-same-line open_line = refl
-same-line (stuck j) = refl
+same-line (narrow_by (by_range j)) = refl
+same-line (mark_by (unit_atom j)) = refl
+same-line (end_by (void_by (by_range j))) = refl
+same-line (narrow_by (by_off_range j)) = refl
+same-line (end_by (void_by (by_off_range j))) = refl
+same-line (narrow_by (by_combination ms)) = refl
+same-line (end_by (void_by (by_combination ms))) = refl
+same-line (mark_by (ban_atom j i)) = refl
+same-line (end_by false_form) = refl
+same-line (end_by (by_lemma i)) = refl
+same-line (branch_by (cut_axis axis c)) = refl
+same-line (branch_by (flip_axis axis)) = refl
+same-line (branch_by (case_atom j)) = refl
+same-line (stay_by open_state) = refl
+same-line (stay_by (stuck_atom j)) = refl
 
 pub its_number : (r : Line) (i : ℕ) → lemma_named r ≡ Some i → rule_text r ≡ lemma_front r ++ decimal i
 its_number r i h = ap rule_text (sym (same-line r)) ∙ front_and_number r i h (λ n. n)
 
 pub number_counts : (r : Line) (i : ℕ) → lemma_named r ≡ Some i → IsSpelled (rule_line r) → i < 2 ^ 32
-number_counts (pull j) i h s = absurd (let e : ◌≡◌ {A = Option ℕ} None (Some i) = h in cc)
-number_counts (unit j) i h s = absurd (let e : ◌≡◌ {A = Option ℕ} None (Some i) = h in cc)
-number_counts (void j) i h s = absurd (let e : ◌≡◌ {A = Option ℕ} None (Some i) = h in cc)
-number_counts (push j) i h s = absurd (let e : ◌≡◌ {A = Option ℕ} None (Some i) = h in cc)
-number_counts (void_no j) i h s = absurd (let e : ◌≡◌ {A = Option ℕ} None (Some i) = h in cc)
-number_counts (combine ms) i h s = absurd (let e : ◌≡◌ {A = Option ℕ} None (Some i) = h in cc)
-number_counts (void_combine ms) i h s = absurd (let e : ◌≡◌ {A = Option ℕ} None (Some i) = h in cc)
-number_counts (ban j k) i h s = let e : k ≡ i = cc in omega (arith, e, s.0.1)
-number_counts make_false i h s = absurd (let e : ◌≡◌ {A = Option ℕ} None (Some i) = h in cc)
-number_counts (by k) i h s = let e : k ≡ i = cc in omega (arith, e, s.0)
-number_counts (cut axis c) i h s = absurd (let e : ◌≡◌ {A = Option ℕ} None (Some i) = h in cc)
-number_counts (flip axis) i h s = absurd (let e : ◌≡◌ {A = Option ℕ} None (Some i) = h in cc)
-number_counts (case j) i h s = absurd (let e : ◌≡◌ {A = Option ℕ} None (Some i) = h in cc)
-number_counts open_line i h s = absurd (let e : ◌≡◌ {A = Option ℕ} None (Some i) = h in cc)
-number_counts (stuck j) i h s = absurd (let e : ◌≡◌ {A = Option ℕ} None (Some i) = h in cc)
+number_counts (narrow_by (by_range j)) i h s = absurd (let e : ◌≡◌ {A = Option ℕ} None (Some i) = h in cc)
+number_counts (mark_by (unit_atom j)) i h s = absurd (let e : ◌≡◌ {A = Option ℕ} None (Some i) = h in cc)
+number_counts (end_by (void_by (by_range j))) i h s = absurd (let e : ◌≡◌ {A = Option ℕ} None (Some i) = h in cc)
+number_counts (narrow_by (by_off_range j)) i h s = absurd (let e : ◌≡◌ {A = Option ℕ} None (Some i) = h in cc)
+number_counts (end_by (void_by (by_off_range j))) i h s = absurd (let e : ◌≡◌ {A = Option ℕ} None (Some i) = h in cc)
+number_counts (narrow_by (by_combination ms)) i h s = absurd (let e : ◌≡◌ {A = Option ℕ} None (Some i) = h in cc)
+number_counts (end_by (void_by (by_combination ms))) i h s = absurd (let e : ◌≡◌ {A = Option ℕ} None (Some i) = h in cc)
+number_counts (mark_by (ban_atom j k)) i h s = let e : k ≡ i = cc in omega (arith, e, s.0.1)
+number_counts (end_by false_form) i h s = absurd (let e : ◌≡◌ {A = Option ℕ} None (Some i) = h in cc)
+number_counts (end_by (by_lemma k)) i h s = let e : k ≡ i = cc in omega (arith, e, s.0)
+number_counts (branch_by (cut_axis axis c)) i h s = absurd (let e : ◌≡◌ {A = Option ℕ} None (Some i) = h in cc)
+number_counts (branch_by (flip_axis axis)) i h s = absurd (let e : ◌≡◌ {A = Option ℕ} None (Some i) = h in cc)
+number_counts (branch_by (case_atom j)) i h s = absurd (let e : ◌≡◌ {A = Option ℕ} None (Some i) = h in cc)
+number_counts (stay_by open_state) i h s = absurd (let e : ◌≡◌ {A = Option ℕ} None (Some i) = h in cc)
+number_counts (stay_by (stuck_atom j)) i h s = absurd (let e : ◌≡◌ {A = Option ℕ} None (Some i) = h in cc)
 
 -- ---- digits
 

@@ -2,7 +2,7 @@
 use Rattle.std.specs.Prelude.{◌≡◌, ℕ, ◌+◌, ◌-◌, ◌^◌, ◌<◌, ◌≤◌, List, [], ◌∷◌, ◌++◌, codes, decimal, Bool, true, false, min, length, Option, Some, None, Result, Ok, Err, IfSome, slice_get}
 use Rattle.std.specs.declared.alloc.AllocError.{AllocError}
 use Rattle.cover_line.specs.Words.{RuleWord, pull_word, unit_word, ban_word, push_word, by_word, cut_word, flip_word, case_word, open_word, stuck_word, combine_word, word_of}
-use Rattle.cover_model.specs.Rules.{Line, ban, by}
+use Rattle.cover_model.specs.Rules.{Line, ban, by, end_by, by_lemma, mark_by, ban_atom}
 use Rattle.cert_read.specs.CertLine.{CertLine, rule_line}
 use Rattle.cert_read.specs.LineText.{line_text}
 use Rattle.cert_joined.specs.Covers.{Arity, ends, goes_on, splits, line_by, numbered}
@@ -57,8 +57,8 @@ names_by_word ban_word = true
 names_by_word w = false
 
 abbrev pub lemma_named : Line → Option ℕ
-lemma_named (by i) = Some i
-lemma_named (ban j i) = Some i
+lemma_named (end_by (by_lemma i)) = Some i
+lemma_named (mark_by (ban_atom j i)) = Some i
 lemma_named l = None
 
 -- whether a line names one
@@ -77,8 +77,8 @@ renumbered f l = l
 
 -- what stands before its number
 abbrev pub lemma_front : Line → List ℕ
-lemma_front (by i) = codes "by "
-lemma_front (ban j i) = codes "ban " ++ (decimal j ++ (32 ∷ []))
+lemma_front (end_by (by_lemma i)) = codes "by "
+lemma_front (mark_by (ban_atom j i)) = codes "ban " ++ (decimal j ++ (32 ∷ []))
 lemma_front l = []
 
 -- the number that these give a lemma

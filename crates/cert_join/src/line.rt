@@ -7,7 +7,7 @@ ghost use Rattle.cert_read.specs.LineText.{line_text, IsSpelled};
 ghost use Rattle.cert_read.specs.Lines.{all_bytes, words_of};
 ghost use Rattle.cert_join.specs.Kinds.{does_name, does_stay, kind_of_word, left_kind, lemma_front, lemma_named, number_among, rule_text, waiting_behind, IsRenumbered};
 
-use cover_line::{AtomRule, CombinationRule, Word};
+use cover_line::Word;
 use itoa::Buffer;
 use memchr::{memchr, memrchr};
 use std::alloc::AllocError;
@@ -49,16 +49,11 @@ fn left_by(word: Word) -> Left
     ensures { result ≡ kind_of_word (rule_word word) }
 {
     match word {
-        Word::Atom(AtomRule::Pull | AtomRule::Unit | AtomRule::Push) => Left::One,
-        Word::Atom(AtomRule::Void | AtomRule::VoidNo) => Left::Nothing,
-        Word::Atom(AtomRule::Case) => Left::Two,
-        Word::Atom(AtomRule::Stuck) => Left::Stuck,
-        Word::Combination(CombinationRule::Combine) => Left::One,
-        Word::Combination(CombinationRule::VoidCombine) => Left::Nothing,
-        Word::Ban => Left::One,
-        Word::By | Word::False | Word::Empty => Left::Nothing,
-        Word::Cut | Word::Flip => Left::Two,
+        Word::Narrow(_) | Word::Unit | Word::Ban => Left::One,
+        Word::Void(_) | Word::False | Word::By | Word::Empty => Left::Nothing,
+        Word::Cut | Word::Flip | Word::Case => Left::Two,
         Word::Open => Left::Open,
+        Word::Stuck => Left::Stuck,
     }
 }
 

@@ -1,7 +1,7 @@
 -- What the certificates of covers say, and what joins them: one header, the lemmas of all with new numbers, and a tree that joins theirs.
 use Rattle.std.specs.Prelude.{◌≡◌, ◌≤◌, ℕ, suc, List, [], ◌∷◌, ◌++◌, Option, Some, length, map, get_or, slice_get}
 use Rattle.std.specs.List.{AllByRecursion}
-use Rattle.cover_model.specs.Rules.{Line, pull, unit, push, combine, ban, by, cut, flip, case}
+use Rattle.cover_model.specs.Rules.{Line, ban, by, narrow_by, by_range, by_off_range, by_combination, end_by, by_lemma, mark_by, unit_atom, ban_atom, branch_by, cut_axis, flip_axis, case_atom}
 use Rattle.cover_model.specs.Derivation.{Tree, leaf, then, fork, tree_lines}
 use Rattle.cert_read.specs.CertLine.{CertLine, version, margin, delta, bound, cover, lemma, tree_word, end_word, real_interval, bool_value, yes_list, no_list}
 use Rattle.cert_read.specs.LineText.{IsSpelled, line_text, text_of_lines}
@@ -46,8 +46,8 @@ cover_lines c =
 -- ---- lines with other numbers of lemmas
 
 abbrev pub line_by : (ℕ → ℕ) → Line → Line
-line_by f (by i) = by (f i)
-line_by f (ban j i) = ban j (f i)
+line_by f (end_by (by_lemma i)) = by (f i)
+line_by f (mark_by (ban_atom j i)) = ban j (f i)
 line_by f l = l
 
 abbrev pub tree_by : (ℕ → ℕ) → Tree → Tree
@@ -62,14 +62,14 @@ pub data Arity : Type 0 where
   ends goes_on splits : Arity
 
 abbrev pub arity : Line → Arity
-arity (pull j) = goes_on
-arity (unit j) = goes_on
-arity (push j) = goes_on
-arity (combine ms) = goes_on
-arity (ban j i) = goes_on
-arity (cut axis c) = splits
-arity (flip axis) = splits
-arity (case j) = splits
+arity (narrow_by (by_range j)) = goes_on
+arity (mark_by (unit_atom j)) = goes_on
+arity (narrow_by (by_off_range j)) = goes_on
+arity (narrow_by (by_combination ms)) = goes_on
+arity (mark_by (ban_atom j i)) = goes_on
+arity (branch_by (cut_axis axis c)) = splits
+arity (branch_by (flip_axis axis)) = splits
+arity (branch_by (case_atom j)) = splits
 arity l = ends
 
 -- each line of the tree has as many trees below it as it leaves states

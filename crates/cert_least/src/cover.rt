@@ -17,7 +17,7 @@ use crate::point::point_behind;
 use crate::said::{CoverLine, said};
 use cert_check::{CertFault, Checker};
 use cert_read::Line;
-use cover_line::{AtomRule, Rule, Word};
+use cover_line::{Rule, Staying, Word};
 use ival::Ival;
 
 // `over` in the main tree, where these are the goal's values: a leaf, as one that stays open in a cover of the check.
@@ -26,7 +26,7 @@ fn over_values(checker: &mut Checker<'_>, scope: Scope, values: Ival) -> Result<
         IsOverNext a scope checker.old (interval_of values) checker.new result }
 {
     if is_over(scope.lower, values) {
-        let open = Line::Rule(Rule::Open);
+        let open = Line::Rule(Rule::Stay(Staying::Open));
         return give(checker, &open, Phase::InCover(scope));
     }
     Err(CertFault::OverFails { line: 0 })
@@ -71,7 +71,7 @@ fn leaf_fault(aim: &Aim, scope: Scope, stuck: Option<u32>) -> CertFault
                 return CertFault::BadNumber { line: 0 };
             }
             CertFault::RuleFails {
-                rule: Word::Atom(AtomRule::Stuck),
+                rule: Word::Stuck,
                 line: 0,
             }
         }

@@ -3,7 +3,7 @@ ghost use Rattle.cert_read.specs.Views.{line_of};
 ghost use Rattle.cert_least.specs.Said.{IsSaid};
 
 use cert_read::Line;
-use cover_line::{AtomRule, Rule};
+use cover_line::{Rule, Staying};
 
 /// A line of the cover or behind it.
 #[derive(Clone, Copy)]
@@ -23,8 +23,8 @@ pub fn said(line: &Line) -> CoverLine
 {
     match line {
         Line::Over => CoverLine::Over,
-        Line::Rule(Rule::Open) => CoverLine::Leaf(None),
-        Line::Rule(Rule::Atom(AtomRule::Stuck, atom)) => CoverLine::Leaf(Some(*atom)),
+        Line::Rule(Rule::Stay(Staying::Open)) => CoverLine::Leaf(None),
+        Line::Rule(Rule::Stay(Staying::Stuck(atom))) => CoverLine::Leaf(Some(*atom)),
         Line::Point => CoverLine::Point,
         _ => CoverLine::Other,
     }

@@ -4,7 +4,7 @@ use Rattle.poly_graph.specs.Marks.{Mark, is_yes}
 use Rattle.poly_graph.specs.Problem.{Problem}
 use Rattle.cover_model.specs.State.{State, Loosenings, margin_of, with_no, may, misses, root_state}
 use Rattle.interval_model.specs.Space.{widest}
-use Rattle.cover_model.specs.Rules.{Line, push, void_no, combine, void_combine, cut, flip, case, stuck, Left, one, two, rule, in_no_one_sided, is_combination, are_combinable, pulled, voided, narrowing, narrowing_off, combining, is_stuck_atom}
+use Rattle.cover_model.specs.Rules.{Line, Left, one, two, rule, in_no_one_sided, is_combination, are_combinable, pulled, voided, narrowing, narrowing_off, combining, is_stuck_atom, narrow_by, by_off_range, by_combination, end_by, void_by, branch_by, cut_axis, flip_axis, case_atom, stay_by, stuck_atom}
 use Rattle.cover_model.specs.Honest.{is_honest, is_some_space, none_empty_from, none_below, not_shown, settled, all_in_yes, conjuncts, is_small, is_wide, is_middle_at}
 use Rattle.cover_model.specs.Derivation.{Tree, leaf, then, fork, Lawful, at_closed, at_left, at_step, at_fork}
 use Rattle.cert_model.specs.Due.{Standing, left_open}
@@ -25,10 +25,10 @@ module _ (p : Problem) (s : Loosenings) (e : s.version ≡ 2) where
   third = ap (nat_le 2) e
 
   pub rule_same : (lemmas : List State) (S : State) (l : Line) → rule p (in_version_3 s) lemmas S l ≡ rule p s lemmas S l
-  rule_same lemmas S (push j) = ap (λ (t : Bool). cond (t && in_no_one_sided p S j) (pulled S (narrowing_off p s S j)) None) (sym third)
-  rule_same lemmas S (void_no j) = ap (λ (t : Bool). cond (t && in_no_one_sided p S j) (voided (narrowing_off p s S j)) None) (sym third)
-  rule_same lemmas S (combine ms) = ap (λ (t : Bool). cond (t && is_combination ms && are_combinable p S ms) (pulled S (combining p s S ms)) None) (sym third)
-  rule_same lemmas S (void_combine ms) = ap (λ (t : Bool). cond (t && is_combination ms && are_combinable p S ms) (voided (combining p s S ms)) None) (sym third)
+  rule_same lemmas S (narrow_by (by_off_range j)) = ap (λ (t : Bool). cond (t && in_no_one_sided p S j) (pulled S (narrowing_off p s S j)) None) (sym third)
+  rule_same lemmas S (end_by (void_by (by_off_range j))) = ap (λ (t : Bool). cond (t && in_no_one_sided p S j) (voided (narrowing_off p s S j)) None) (sym third)
+  rule_same lemmas S (narrow_by (by_combination ms)) = ap (λ (t : Bool). cond (t && is_combination ms && are_combinable p S ms) (pulled S (combining p s S ms)) None) (sym third)
+  rule_same lemmas S (end_by (void_by (by_combination ms))) = ap (λ (t : Bool). cond (t && is_combination ms && are_combinable p S ms) (voided (combining p s S ms)) None) (sym third)
   rule_same lemmas S _ = refl
 
   module _ (lemmas : List State) where
@@ -104,8 +104,8 @@ module _ (s : Loosenings) (p : Problem) where
   below-same S (suc j) = ap (λ (t : Bool). not (is_stuck_atom p s S j) && t) (below-same S j)
 
   pub honest_in_version_3 : (w : ℕ) (S : State) (l : Line) → is_honest p w (in_version_3 s) S l ≡ is_honest p w s S l
-  honest_in_version_3 w S (cut axis c) = ap (λ (t : Bool). not_shown p s S && t && is_wide w axis (widest S.space) && is_middle_at axis c S.space) (settled-same S)
-  honest_in_version_3 w S (flip axis) = ap (λ (t : Bool). not_shown p s S && t) (settled-same S)
-  honest_in_version_3 w S (case j) = ap (λ (t : Bool). not_shown p s S && t && may p s (with_no S j) && not (misses p (margin_of s) S.space j)) (settled-same S)
-  honest_in_version_3 w S (stuck j) = ap₂ (λ (t : Bool) (u : Bool). not_shown p s S && t && is_small w S.space && u) (settled-same S) (below-same S j)
+  honest_in_version_3 w S (branch_by (cut_axis axis c)) = ap (λ (t : Bool). not_shown p s S && t && is_wide w axis (widest S.space) && is_middle_at axis c S.space) (settled-same S)
+  honest_in_version_3 w S (branch_by (flip_axis axis)) = ap (λ (t : Bool). not_shown p s S && t) (settled-same S)
+  honest_in_version_3 w S (branch_by (case_atom j)) = ap (λ (t : Bool). not_shown p s S && t && may p s (with_no S j) && not (misses p (margin_of s) S.space j)) (settled-same S)
+  honest_in_version_3 w S (stay_by (stuck_atom j)) = ap₂ (λ (t : Bool) (u : Bool). not_shown p s S && t && is_small w S.space && u) (settled-same S) (below-same S j)
   honest_in_version_3 w S _ = refl

@@ -8,7 +8,7 @@ use Rattle.script_model.specs.Symbol.{is_simple_symbol}
 use Rattle.interval_model.specs.Space.{Domain, real_domain, bool_domain, Space}
 use Rattle.poly_graph.specs.Problem.{Axis, Problem}
 use Rattle.cover_model.specs.State.{State, Loosenings}
-use Rattle.cover_model.specs.Rules.{Line, open_line, stuck}
+use Rattle.cover_model.specs.Rules.{Line, stuck, stay_by, open_state, stuck_atom}
 use Rattle.cert_model.specs.Due.{CertFault, BadHeader, BadNumber, RuleFails, KeepFails, OverFails, Missing, Extra, WrongBound, NotShown, BadLine, LineTooLong, TooLong, Standing, Value, at_point, left_open}
 use Rattle.cert_model.specs.Accepted.{Verdict, accepted, refused}
 use Rattle.cert_model.specs.Least.{Least, GoalValue, plain, least, GoalVerdict, upper_at}
@@ -74,7 +74,7 @@ abbrev pub width_text : Problem → State → ℕ → List ℕ
 width_text p S j = text_line (codes "unknown width") ++ text_line (codes "atom " ++ decimal j) ++ axes_text domain_text p.axes S.space
 
 abbrev pub is_open : Line → Bool
-is_open open_line = true
+is_open (stay_by open_state) = true
 is_open l = false
 
 abbrev pub has_open : List Standing → Bool
@@ -82,7 +82,7 @@ has_open [] = false
 has_open (x ∷ rest) = is_open x.does || has_open rest
 
 abbrev atom_of : Line → ℕ
-atom_of (stuck j) = j
+atom_of (stay_by (stuck_atom j)) = j
 atom_of l = 0
 
 -- an open state comes before a stuck one; of the stuck ones the first is told

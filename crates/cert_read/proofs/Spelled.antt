@@ -13,7 +13,7 @@ use Rattle.dyadic.specs.Rounding.{Dyadic}
 use Rattle.dyadic.specs.NumberText.{number_spelling}
 use Rattle.dyadic.proofs.Equal.{both_true, both_pass}
 use Rattle.cert_read.specs.Lines.{all_bytes, is_word, are_words, words_of, is_too_long, longest_line}
-use Rattle.cover_line.specs.Line.{Multipliers, Line, pull, unit, void, push, void_no, combine, void_combine, ban, make_false, by, cut, flip, case, open_line, stuck}
+use Rattle.cover_line.specs.Line.{Multipliers, Line, pull, unit, void, push, void_no, combine, void_combine, ban, by, cut, flip, case, stuck, narrow_by, by_range, by_off_range, by_combination, end_by, void_by, false_form, by_lemma, mark_by, unit_atom, ban_atom, branch_by, cut_axis, flip_axis, case_atom, stay_by, open_state, stuck_atom}
 use Rattle.cover_line.specs.Words.{RuleWord, empty_word, pull_word, unit_word, ban_word, void_word, push_word, void_no_word, false_word, by_word, cut_word, flip_word, case_word, open_word, stuck_word, combine_word, void_combine_word, word_of, word_text, Operands, of_nothing, of_atom, of_lemma, of_atom_lemma, of_axis, of_axis_place, of_multipliers, operands_of}
 use Rattle.cert_read.specs.CertLine.{BoolWord, says_false, says_true, says_both, CertLine, version, margin, delta, bound, lower, goal, over, checks, cover, keep, point_word, tree_word, end_word, lemma, real_interval, real_value, bool_value, yes_list, no_list, rule_line, crossing, is_plain, if_below, if_plain, count_of, if_number, dyadic_of, counts_of, and_count, pairs_of, and_pair, are_paired, has_pairs, line, parsed, with_count, with_counts, with_dyadic, with_dyadics, with_both, with_list, bound_in, lower_in, paired, by_first, if_words, unless_long}
 use Rattle.cert_read.specs.LineText.{spaced, line_words, line_text, rule_words, operand_words, pair_words, bound_text, lower_text, bool_text, is_word_byte, IsCount, IsSpelledNumber, IsSpelledPair, AreSpelledPairs, AreSpelledOperands, IsSpelledRule, IsSpelledBound, IsSpelledLower, HasSpelling, IsSpelled}
@@ -230,21 +230,21 @@ pairs-say : (f : Multipliers → CertLine) (ps : Multipliers) → AreSpelledPair
 pairs-say f ps h = paired_line f (pair_words ps) (Some ps) (spelled-some ps h.0) (spelled_pairs ps h.1)
 
 rule-says : (l : Line) → IsSpelledRule l → by_first (rule_words l) ≡ line (rule_line l)
-rule-says (pull j) h = one-says (λ n. rule_line (pull n)) j h
-rule-says (unit j) h = one-says (λ n. rule_line (unit n)) j h
-rule-says (void j) h = one-says (λ n. rule_line (void n)) j h
-rule-says (push j) h = one-says (λ n. rule_line (push n)) j h
-rule-says (void_no j) h = one-says (λ n. rule_line (void_no n)) j h
-rule-says (case j) h = one-says (λ n. rule_line (case n)) j h
-rule-says (stuck j) h = one-says (λ n. rule_line (stuck n)) j h
-rule-says (by i) h = one-says (λ n. rule_line (by n)) i h
-rule-says (ban j i) h = ap₂ (λ (o : Option ℕ) (q : Option ℕ). with_counts (λ m n. rule_line (ban m n)) o q) (spelled_count j h.0) (spelled_count i h.1)
-rule-says (cut axis c) h = ap₂ (λ (o : Option ℕ) (q : Option Dyadic). with_both (λ m d. rule_line (cut m d)) o q) (spelled_count axis h.0) (spelled-number c h.1)
-rule-says (flip axis) h = one-says (λ n. rule_line (flip n)) axis h
-rule-says (combine ps) h = pairs-say (λ ms. rule_line (combine ms)) ps h
-rule-says (void_combine ps) h = pairs-say (λ ms. rule_line (void_combine ms)) ps h
-rule-says make_false h = refl
-rule-says open_line h = refl
+rule-says (narrow_by (by_range j)) h = one-says (λ n. rule_line (pull n)) j h
+rule-says (mark_by (unit_atom j)) h = one-says (λ n. rule_line (unit n)) j h
+rule-says (end_by (void_by (by_range j))) h = one-says (λ n. rule_line (void n)) j h
+rule-says (narrow_by (by_off_range j)) h = one-says (λ n. rule_line (push n)) j h
+rule-says (end_by (void_by (by_off_range j))) h = one-says (λ n. rule_line (void_no n)) j h
+rule-says (branch_by (case_atom j)) h = one-says (λ n. rule_line (case n)) j h
+rule-says (stay_by (stuck_atom j)) h = one-says (λ n. rule_line (stuck n)) j h
+rule-says (end_by (by_lemma i)) h = one-says (λ n. rule_line (by n)) i h
+rule-says (mark_by (ban_atom j i)) h = ap₂ (λ (o : Option ℕ) (q : Option ℕ). with_counts (λ m n. rule_line (ban m n)) o q) (spelled_count j h.0) (spelled_count i h.1)
+rule-says (branch_by (cut_axis axis c)) h = ap₂ (λ (o : Option ℕ) (q : Option Dyadic). with_both (λ m d. rule_line (cut m d)) o q) (spelled_count axis h.0) (spelled-number c h.1)
+rule-says (branch_by (flip_axis axis)) h = one-says (λ n. rule_line (flip n)) axis h
+rule-says (narrow_by (by_combination ps)) h = pairs-say (λ ms. rule_line (combine ms)) ps h
+rule-says (end_by (void_by (by_combination ps))) h = pairs-say (λ ms. rule_line (void_combine ms)) ps h
+rule-says (end_by false_form) h = refl
+rule-says (stay_by open_state) h = refl
 
 line-says : (l : CertLine) → HasSpelling l → by_first (line_words l) ≡ line l
 line-says (version n) h = one-says version n h

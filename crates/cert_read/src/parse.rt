@@ -1,8 +1,9 @@
 // What the bytes of a line say.
 ghost use Rattle.std.specs.Prelude.{◌≡◌, ◌∷◌, option_copied};
-ghost use Rattle.cover_line.specs.Views.{rule_word};
+ghost use Rattle.cover_line.specs.Line.{end_by, narrow_by, void_by};
+ghost use Rattle.cover_line.specs.Views.{narrowing_of, rule_word};
 ghost use Rattle.cover_line.specs.Words.{word_text};
-ghost use Rattle.cert_read.specs.CertLine.{alone, bool_in, bound_in, by_first, lower_in, parsed, real_in};
+ghost use Rattle.cert_read.specs.CertLine.{alone, bool_in, bound_in, by_first, lower_in, parsed, real_in, rule_line};
 ghost use Rattle.cert_read.specs.Keywords.{keyword_text};
 ghost use Rattle.cert_read.specs.Lines.{are_words, words_of};
 ghost use Rattle.cert_read.specs.Numbers.{AreCounted, ArePairs};
@@ -15,7 +16,7 @@ use crate::number::{are_paired, count, counts, dyadic, pairs};
 use crate::place::cut;
 use crate::words::{Words, words_behind};
 use crate::{BoolSet, Line, LineFault};
-use cover_line::{Rule, Word};
+use cover_line::{Branching, Ending, Marking, Narrowing, NarrowingKind, Rule, Staying, Word};
 use dyadic::Dy;
 use std::alloc::Global;
 
@@ -88,29 +89,49 @@ fn after_keyword(alloc: Global, word: Keyword, rest: Option<&[u8]>) -> Result<Li
     }
 }
 
+fn narrow(narrowing: Narrowing) -> Line
+    ensures { line_of result ≡ rule_line (narrow_by (narrowing_of narrowing)) }
+{
+    Line::Rule(Rule::Narrow(narrowing))
+}
+
+fn void(narrowing: Narrowing) -> Line
+    ensures { line_of result ≡ rule_line (end_by (void_by (narrowing_of narrowing))) }
+{
+    Line::Rule(Rule::End(Ending::Void(narrowing)))
+}
+
 // What a line of a tree says that begins with this word.
 fn after_rule_word(alloc: Global, word: Word, rest: Option<&[u8]>) -> Result<Line, LineFault>
     ensures { IsParse result
         (by_first (word_text (rule_word word) ∷ words_behind (option_copied rest.entry))) }
 {
     match word {
-        Word::Atom(rule) => Ok(Line::Rule(Rule::Atom(rule, number(rest)?))),
-        Word::Combination(rule) => {
-            let pairs = multipliers(alloc, rest)?;
-            Ok(Line::Rule(Rule::Combination(rule, pairs)))
+        Word::Narrow(NarrowingKind::Pull) => Ok(narrow(Narrowing::Pull(number(rest)?))),
+        Word::Narrow(NarrowingKind::Push) => Ok(narrow(Narrowing::Push(number(rest)?))),
+        Word::Narrow(NarrowingKind::Combine) => {
+            Ok(narrow(Narrowing::Combine(multipliers(alloc, rest)?)))
         }
+        Word::Void(NarrowingKind::Pull) => Ok(void(Narrowing::Pull(number(rest)?))),
+        Word::Void(NarrowingKind::Push) => Ok(void(Narrowing::Push(number(rest)?))),
+        Word::Void(NarrowingKind::Combine) => {
+            Ok(void(Narrowing::Combine(multipliers(alloc, rest)?)))
+        }
+        Word::False => alone(rest, Line::Rule(Rule::End(Ending::False))),
+        Word::By => Ok(Line::Rule(Rule::End(Ending::By(number(rest)?)))),
+        Word::Unit => Ok(Line::Rule(Rule::Mark(Marking::Unit(number(rest)?)))),
         Word::Ban => {
             let (atom, lemma) = two_numbers(rest)?;
-            Ok(Line::Rule(Rule::Ban(atom, lemma)))
+            Ok(Line::Rule(Rule::Mark(Marking::Ban(atom, lemma))))
         }
-        Word::By => Ok(Line::Rule(Rule::By(number(rest)?))),
         Word::Cut => {
             let (axis, place) = place(rest)?;
-            Ok(Line::Rule(Rule::Cut(axis, place)))
+            Ok(Line::Rule(Rule::Branch(Branching::Cut(axis, place))))
         }
-        Word::Flip => Ok(Line::Rule(Rule::Flip(number(rest)?))),
-        Word::False => alone(rest, Line::Rule(Rule::False)),
-        Word::Open => alone(rest, Line::Rule(Rule::Open)),
+        Word::Flip => Ok(Line::Rule(Rule::Branch(Branching::Flip(number(rest)?)))),
+        Word::Case => Ok(Line::Rule(Rule::Branch(Branching::Case(number(rest)?)))),
+        Word::Open => alone(rest, Line::Rule(Rule::Stay(Staying::Open))),
+        Word::Stuck => Ok(Line::Rule(Rule::Stay(Staying::Stuck(number(rest)?)))),
         Word::Empty => Ok(Line::Empty(number(rest)?)),
     }
 }

@@ -12,7 +12,7 @@ use Rattle.cover_line.specs.declared.rule.Rule.{Rule}
 use Rattle.cover_line.specs.Views as rules
 use Rattle.cover_model.specs.State.{State, Loosenings}
 use Rattle.cover_model.specs.Honest.{branch_count}
-use Rattle.cover_model.specs.Rules.{Line, pull, unit, void, push, void_no, combine, void_combine, ban, make_false, by, cut, flip, case, open_line, stuck}
+use Rattle.cover_model.specs.Rules.{Line, by, narrow_by, by_range, by_off_range, by_combination, end_by, void_by, false_form, by_lemma, mark_by, unit_atom, ban_atom, branch_by, cut_axis, flip_axis, case_atom, stay_by, open_state, stuck_atom}
 use Rattle.cover_model.specs.Derivation.{Tree, leaf, tree_lines}
 use Rattle.cover_data.specs.declared.margins.Options.{Options}
 use Rattle.cover_data.specs.declared.stored.StoredState.{StoredState}
@@ -36,21 +36,21 @@ use Rattle.cert_resume.proofs.Rows.{grafts_more, each_more, shared_more, grafts_
 
 -- a line that leaves its state is no branch
 no-branch : (l : Line) → is_leaving l ≡ true → branch_count l ≡ 0
-no-branch (cut axis c) e = absurd (true≢false (sym e))
-no-branch (flip axis) e = absurd (true≢false (sym e))
-no-branch (case j) e = absurd (true≢false (sym e))
-no-branch (pull j) e = refl
-no-branch (unit j) e = refl
-no-branch (void j) e = refl
-no-branch (push j) e = refl
-no-branch (void_no j) e = refl
-no-branch (combine ms) e = refl
-no-branch (void_combine ms) e = refl
-no-branch (ban j i) e = refl
-no-branch make_false e = refl
-no-branch (by i) e = refl
-no-branch open_line e = refl
-no-branch (stuck j) e = refl
+no-branch (branch_by (cut_axis axis c)) e = absurd (true≢false (sym e))
+no-branch (branch_by (flip_axis axis)) e = absurd (true≢false (sym e))
+no-branch (branch_by (case_atom j)) e = absurd (true≢false (sym e))
+no-branch (narrow_by (by_range j)) e = refl
+no-branch (mark_by (unit_atom j)) e = refl
+no-branch (end_by (void_by (by_range j))) e = refl
+no-branch (narrow_by (by_off_range j)) e = refl
+no-branch (end_by (void_by (by_off_range j))) e = refl
+no-branch (narrow_by (by_combination ms)) e = refl
+no-branch (end_by (void_by (by_combination ms))) e = refl
+no-branch (mark_by (ban_atom j i)) e = refl
+no-branch (end_by false_form) e = refl
+no-branch (end_by (by_lemma i)) e = refl
+no-branch (stay_by open_state) e = refl
+no-branch (stay_by (stuck_atom j)) e = refl
 
 module _ (q : Parts) (o : Options) (h : Share) (start : List State) where
   abbrev p : Problem

@@ -19,7 +19,7 @@ use Rattle.cover_model.specs.Narrowed.{from_parents, own, narrowed_from, narrowe
 use Rattle.cover_model.specs.Combination.{Multipliers, Part, Expansion, part_range, tightened, with_axis, with_intervals, range_of, combined_about, allowed_range, expansion, marked_range}
 use Rattle.cover_model.specs.State.{State, Loosenings, margin_of, with_mark, with_yes, with_no, undecided, in_yes, may}
 use Rattle.cover_model.specs.Fits.{FitsAxis, FitsAxes, FitsProblem}
-use Rattle.cover_model.specs.Rules.{Line, pull, unit, void, push, void_no, combine, void_combine, ban, make_false, by, cut, flip, case, open_line, stuck, Left, closed, one, two, stays, rule, when, pulled, voided, narrowing, narrowing_off, combining, can_push, can_combine, lemma_covers, with_changed, is_stuck_atom}
+use Rattle.cover_model.specs.Rules.{Line, by, Left, closed, one, two, stays, rule, when, pulled, voided, narrowing, narrowing_off, combining, can_push, can_combine, lemma_covers, with_changed, is_stuck_atom, narrow_by, by_range, by_off_range, by_combination, end_by, void_by, false_form, by_lemma, mark_by, unit_atom, ban_atom, branch_by, cut_axis, flip_axis, case_atom, stay_by, open_state, stuck_atom}
 use Rattle.cert_resumed.proofs.Parses.{all_append}
 use Rattle.cover_model.specs.Derivation.{Tree, Lawful, at_closed, at_left, at_step, at_fork}
 
@@ -243,23 +243,23 @@ module _ (p : Problem) (g : IsProblem p) (s : Loosenings) (lemmas : List State) 
         (λ narrow e. subst (FitsIfSome p.axes S.space f.axes) e (combined-fits p.axes S.space f.axes p (marked_range p (margin_of s) S.marks) (middle S.space) ms))
 
     rule-fits : (l : Line) → LeftFit (rule p s lemmas S l)
-    rule-fits (pull j) = by-cond (in_yes S j) (pulled S (narrowing p s S j)) (narrow-fits (atom_at p j).0 (range (margin_of s) (atom_at p j).1))
-    rule-fits (unit j) = by-when (undecided S j && not (may p s (with_no S j))) (one (with_yes S j)) (λ e. mark-fits j marked_yes)
-    rule-fits (ban j i) = by-when (undecided S j && lemma_covers lemmas i (with_yes S j)) (one (with_no S j)) (λ e. mark-fits j marked_no)
-    rule-fits (void j) = by-cond (in_yes S j) (voided (narrowing p s S j)) (voided-fit (narrowing p s S j))
-    rule-fits (push j) = by-cond (can_push p s S j) (pulled S (narrowing_off p s S j)) (narrow-fits (atom_at p j).0 (off_range (margin_of s) (atom_at p j).1))
-    rule-fits (void_no j) = by-cond (can_push p s S j) (voided (narrowing_off p s S j)) (voided-fit (narrowing_off p s S j))
-    rule-fits (combine ms) = by-cond (can_combine p s S ms) (pulled S (combining p s S ms)) (combine-fits ms)
-    rule-fits (void_combine ms) = by-cond (can_combine p s S ms) (voided (combining p s S ms)) (voided-fit (combining p s S ms))
-    rule-fits make_false = by-when (not (may p s S)) closed (λ e. tt)
-    rule-fits (by i) = by-when (lemma_covers lemmas i S) closed (λ e. tt)
-    rule-fits (cut axis c) = by-when (test_axis (strictly_inside c) axis S.space) (two (with_changed S (lower_part c) axis) (with_changed S (upper_part c) axis))
+    rule-fits (narrow_by (by_range j)) = by-cond (in_yes S j) (pulled S (narrowing p s S j)) (narrow-fits (atom_at p j).0 (range (margin_of s) (atom_at p j).1))
+    rule-fits (mark_by (unit_atom j)) = by-when (undecided S j && not (may p s (with_no S j))) (one (with_yes S j)) (λ e. mark-fits j marked_yes)
+    rule-fits (mark_by (ban_atom j i)) = by-when (undecided S j && lemma_covers lemmas i (with_yes S j)) (one (with_no S j)) (λ e. mark-fits j marked_no)
+    rule-fits (end_by (void_by (by_range j))) = by-cond (in_yes S j) (voided (narrowing p s S j)) (voided-fit (narrowing p s S j))
+    rule-fits (narrow_by (by_off_range j)) = by-cond (can_push p s S j) (pulled S (narrowing_off p s S j)) (narrow-fits (atom_at p j).0 (off_range (margin_of s) (atom_at p j).1))
+    rule-fits (end_by (void_by (by_off_range j))) = by-cond (can_push p s S j) (voided (narrowing_off p s S j)) (voided-fit (narrowing_off p s S j))
+    rule-fits (narrow_by (by_combination ms)) = by-cond (can_combine p s S ms) (pulled S (combining p s S ms)) (combine-fits ms)
+    rule-fits (end_by (void_by (by_combination ms))) = by-cond (can_combine p s S ms) (voided (combining p s S ms)) (voided-fit (combining p s S ms))
+    rule-fits (end_by false_form) = by-when (not (may p s S)) closed (λ e. tt)
+    rule-fits (end_by (by_lemma i)) = by-when (lemma_covers lemmas i S) closed (λ e. tt)
+    rule-fits (branch_by (cut_axis axis c)) = by-when (test_axis (strictly_inside c) axis S.space) (two (with_changed S (lower_part c) axis) (with_changed S (upper_part c) axis))
         (λ e. (change-fits (lower_part c) (strictly_inside c) (low-fits c) axis e, change-fits (upper_part c) (strictly_inside c) (high-fits c) axis e))
-    rule-fits (flip axis) = by-when (test_axis is_undecided axis S.space) (two (with_changed S (keep false) axis) (with_changed S (keep true) axis))
+    rule-fits (branch_by (flip_axis axis)) = by-when (test_axis is_undecided axis S.space) (two (with_changed S (keep false) axis) (with_changed S (keep true) axis))
         (λ e. (change-fits (keep false) is_undecided (keep-fits false) axis e, change-fits (keep true) is_undecided (keep-fits true) axis e))
-    rule-fits (case j) = by-when (undecided S j) (two (with_yes S j) (with_no S j)) (λ e. (mark-fits j marked_yes, mark-fits j marked_no))
-    rule-fits open_line = tt
-    rule-fits (stuck j) = by-when (is_stuck_atom p s S j) stays (λ e. tt)
+    rule-fits (branch_by (case_atom j)) = by-when (undecided S j) (two (with_yes S j) (with_no S j)) (λ e. (mark-fits j marked_yes, mark-fits j marked_no))
+    rule-fits (stay_by open_state) = tt
+    rule-fits (stay_by (stuck_atom j)) = by-when (is_stuck_atom p s S j) stays (λ e. tt)
 
   -- so do the states that a lawful tree leaves
   abbrev AllFit : List State → Type 0

@@ -2,7 +2,7 @@
 use Rattle.std.proofs.Common.{◌≡◌, ℕ, zero, suc, List, [], ◌∷◌, ◌++◌, Bool, true, false, ◌&&◌, cond, Option, Some, None, IsTrue, refl, ap, ap₂, sym, ◌∙◌, subst}
 use Rattle.poly_graph.specs.Problem.{Problem}
 use Rattle.cover_model.specs.State.{State, Loosenings, undecided, with_yes, with_no}
-use Rattle.cover_model.specs.Rules.{Line, pull, unit, void, push, void_no, combine, void_combine, ban, make_false, by, cut, flip, case, open_line, stuck, Left, closed, one, two, stays, rule, when, lemma_covers, has_version_2, in_no_one_sided, is_combination, are_combinable, pulled, voided, narrowing_off, combining}
+use Rattle.cover_model.specs.Rules.{Line, pull, unit, void, push, void_no, combine, void_combine, ban, make_false, by, cut, flip, case, open_line, stuck, Left, closed, one, two, stays, rule, when, lemma_covers, has_version_2, in_no_one_sided, is_combination, are_combinable, pulled, voided, narrowing_off, combining, narrow_by, by_range, by_off_range, by_combination, end_by, void_by, false_form, by_lemma, mark_by, unit_atom, ban_atom, branch_by, cut_axis, flip_axis, case_atom, stay_by, open_state, stuck_atom}
 use Rattle.cover_model.specs.Derivation.{Tree, Lawful, at_closed, at_left, at_step, at_fork}
 use Rattle.cert_model.specs.Due.{Standing}
 use Rattle.cert_model.specs.Written.{leaf_standing, step_standing, fork_standing, left_standing, tree_standing}
@@ -47,38 +47,38 @@ both-more false t u x h = tt
 
 module _ (p : Problem) (s : Loosenings) where
   version-same : (lemmas : List State) (S : State) (l : Line) → SameIfSome (rule p s lemmas S l) (rule p (in_version_2 s) lemmas S l)
-  version-same lemmas S (push j) = gated (has_version_2 s) (in_no_one_sided p S j) (pulled S (narrowing_off p s S j))
-  version-same lemmas S (void_no j) = gated (has_version_2 s) (in_no_one_sided p S j) (voided (narrowing_off p s S j))
-  version-same lemmas S (combine ms) = gated-twice (has_version_2 s) (is_combination ms) (are_combinable p S ms) (pulled S (combining p s S ms))
-  version-same lemmas S (void_combine ms) = gated-twice (has_version_2 s) (is_combination ms) (are_combinable p S ms) (voided (combining p s S ms))
-  version-same lemmas S (pull j) = same-left (rule p s lemmas S (pull j))
-  version-same lemmas S (unit j) = same-left (rule p s lemmas S (unit j))
-  version-same lemmas S (void j) = same-left (rule p s lemmas S (void j))
-  version-same lemmas S (ban j i) = same-left (rule p s lemmas S (ban j i))
-  version-same lemmas S make_false = same-left (rule p s lemmas S make_false)
-  version-same lemmas S (by i) = same-left (rule p s lemmas S (by i))
-  version-same lemmas S (cut axis c) = same-left (rule p s lemmas S (cut axis c))
-  version-same lemmas S (flip axis) = same-left (rule p s lemmas S (flip axis))
-  version-same lemmas S (case j) = same-left (rule p s lemmas S (case j))
-  version-same lemmas S open_line = same-left (rule p s lemmas S open_line)
-  version-same lemmas S (stuck j) = same-left (rule p s lemmas S (stuck j))
+  version-same lemmas S (narrow_by (by_off_range j)) = gated (has_version_2 s) (in_no_one_sided p S j) (pulled S (narrowing_off p s S j))
+  version-same lemmas S (end_by (void_by (by_off_range j))) = gated (has_version_2 s) (in_no_one_sided p S j) (voided (narrowing_off p s S j))
+  version-same lemmas S (narrow_by (by_combination ms)) = gated-twice (has_version_2 s) (is_combination ms) (are_combinable p S ms) (pulled S (combining p s S ms))
+  version-same lemmas S (end_by (void_by (by_combination ms))) = gated-twice (has_version_2 s) (is_combination ms) (are_combinable p S ms) (voided (combining p s S ms))
+  version-same lemmas S (narrow_by (by_range j)) = same-left (rule p s lemmas S (pull j))
+  version-same lemmas S (mark_by (unit_atom j)) = same-left (rule p s lemmas S (unit j))
+  version-same lemmas S (end_by (void_by (by_range j))) = same-left (rule p s lemmas S (void j))
+  version-same lemmas S (mark_by (ban_atom j i)) = same-left (rule p s lemmas S (ban j i))
+  version-same lemmas S (end_by false_form) = same-left (rule p s lemmas S make_false)
+  version-same lemmas S (end_by (by_lemma i)) = same-left (rule p s lemmas S (by i))
+  version-same lemmas S (branch_by (cut_axis axis c)) = same-left (rule p s lemmas S (cut axis c))
+  version-same lemmas S (branch_by (flip_axis axis)) = same-left (rule p s lemmas S (flip axis))
+  version-same lemmas S (branch_by (case_atom j)) = same-left (rule p s lemmas S (case j))
+  version-same lemmas S (stay_by open_state) = same-left (rule p s lemmas S open_line)
+  version-same lemmas S (stay_by (stuck_atom j)) = same-left (rule p s lemmas S (stuck j))
 
   lemmas-same : (lemmas more : List State) (S : State) (l : Line) → SameIfSome (rule p s lemmas S l) (rule p s (lemmas ++ more) S l)
-  lemmas-same lemmas more S (ban j i) = both-more (undecided S j) (lemma_covers lemmas i (with_yes S j)) (lemma_covers (lemmas ++ more) i (with_yes S j)) (one (with_no S j)) (covers-more lemmas more i (with_yes S j))
-  lemmas-same lemmas more S (by i) = when-more (lemma_covers lemmas i S) (lemma_covers (lemmas ++ more) i S) closed (covers-more lemmas more i S)
-  lemmas-same lemmas more S (push j) = same-left (rule p s lemmas S (push j))
-  lemmas-same lemmas more S (void_no j) = same-left (rule p s lemmas S (void_no j))
-  lemmas-same lemmas more S (combine ms) = same-left (rule p s lemmas S (combine ms))
-  lemmas-same lemmas more S (void_combine ms) = same-left (rule p s lemmas S (void_combine ms))
-  lemmas-same lemmas more S (pull j) = same-left (rule p s lemmas S (pull j))
-  lemmas-same lemmas more S (unit j) = same-left (rule p s lemmas S (unit j))
-  lemmas-same lemmas more S (void j) = same-left (rule p s lemmas S (void j))
-  lemmas-same lemmas more S make_false = same-left (rule p s lemmas S make_false)
-  lemmas-same lemmas more S (cut axis c) = same-left (rule p s lemmas S (cut axis c))
-  lemmas-same lemmas more S (flip axis) = same-left (rule p s lemmas S (flip axis))
-  lemmas-same lemmas more S (case j) = same-left (rule p s lemmas S (case j))
-  lemmas-same lemmas more S open_line = same-left (rule p s lemmas S open_line)
-  lemmas-same lemmas more S (stuck j) = same-left (rule p s lemmas S (stuck j))
+  lemmas-same lemmas more S (mark_by (ban_atom j i)) = both-more (undecided S j) (lemma_covers lemmas i (with_yes S j)) (lemma_covers (lemmas ++ more) i (with_yes S j)) (one (with_no S j)) (covers-more lemmas more i (with_yes S j))
+  lemmas-same lemmas more S (end_by (by_lemma i)) = when-more (lemma_covers lemmas i S) (lemma_covers (lemmas ++ more) i S) closed (covers-more lemmas more i S)
+  lemmas-same lemmas more S (narrow_by (by_off_range j)) = same-left (rule p s lemmas S (push j))
+  lemmas-same lemmas more S (end_by (void_by (by_off_range j))) = same-left (rule p s lemmas S (void_no j))
+  lemmas-same lemmas more S (narrow_by (by_combination ms)) = same-left (rule p s lemmas S (combine ms))
+  lemmas-same lemmas more S (end_by (void_by (by_combination ms))) = same-left (rule p s lemmas S (void_combine ms))
+  lemmas-same lemmas more S (narrow_by (by_range j)) = same-left (rule p s lemmas S (pull j))
+  lemmas-same lemmas more S (mark_by (unit_atom j)) = same-left (rule p s lemmas S (unit j))
+  lemmas-same lemmas more S (end_by (void_by (by_range j))) = same-left (rule p s lemmas S (void j))
+  lemmas-same lemmas more S (end_by false_form) = same-left (rule p s lemmas S make_false)
+  lemmas-same lemmas more S (branch_by (cut_axis axis c)) = same-left (rule p s lemmas S (cut axis c))
+  lemmas-same lemmas more S (branch_by (flip_axis axis)) = same-left (rule p s lemmas S (flip axis))
+  lemmas-same lemmas more S (branch_by (case_atom j)) = same-left (rule p s lemmas S (case j))
+  lemmas-same lemmas more S (stay_by open_state) = same-left (rule p s lemmas S open_line)
+  lemmas-same lemmas more S (stay_by (stuck_atom j)) = same-left (rule p s lemmas S (stuck j))
 
   -- what a rule leaves it leaves with more lemmas, and so under version 2
   pub rule_with_more : (lemmas more : List State) (S : State) (l : Line) (x : Left) → rule p s lemmas S l ≡ Some x → rule p s (lemmas ++ more) S l ≡ Some x

@@ -3,7 +3,7 @@
 use Rattle.std.specs.Prelude.{◌≡◌, ◌≤◌, ◌-◌, ◌%◌, ℕ, suc, List, [], ◌∷◌, ◌++◌, Bool, true, false, cond, Option, None, IsTrue, length, map, drop, nat_eq, sum_by}
 use Rattle.poly_graph.specs.Problem.{Problem, first_crossed}
 use Rattle.cover_model.specs.State.{State, Loosenings}
-use Rattle.cover_model.specs.Rules.{Line, open_line, stuck}
+use Rattle.cover_model.specs.Rules.{Line, stuck, stay_by, open_state, stuck_atom}
 use Rattle.cover_model.specs.Derivation.{Tree, leaf, tree_lines, Lawful}
 use Rattle.cert_read.specs.CertLine.{CertLine, version, margin, delta, bound, cover, tree_word, end_word, line, parsed}
 use Rattle.cert_read.specs.Lines.{lines_of}
@@ -16,8 +16,8 @@ use Rattle.cert_model.specs.Written.{rule_lines, NamesWell, left_standing, IsHon
 
 -- the line leaves its state open or stuck
 abbrev pub is_leaving : Line → Bool
-is_leaving open_line = true
-is_leaving (stuck j) = true
+is_leaving (stay_by open_state) = true
+is_leaving (stay_by (stuck_atom j)) = true
 is_leaving l = false
 
 -- the first lines are the second ones, but that some which leave their states are replaced by the lines of trees

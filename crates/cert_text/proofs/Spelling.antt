@@ -6,12 +6,7 @@ use Rattle.std.proofs.lemmas.Fmt.{length-decimal-le}
 use Rattle.std.proofs.lemmas.List.{append-nil}
 use Rattle.cover_model.specs.Rules.{Line, ban, cut}
 use Rattle.cover_model.specs.Combination.{Multipliers}
-use Rattle.cover_line.specs.declared.rule.AtomRule.TheVariants as atom
-use Rattle.cover_line.specs.declared.rule.CombinationRule.{CombinationRule}
-use Rattle.cover_line.specs.declared.rule.CombinationRule.TheVariants as combination
-use Rattle.cover_line.specs.declared.word.Word.TheVariants as word
 use Rattle.cover_line.specs.Words.{word_text}
-use Rattle.cover_line.specs.Views.{combination_line, rule_word}
 use Rattle.poly_graph.specs.Marks.{Mark, is_yes, is_no, numbers_from}
 use Rattle.dyadic.specs.Rounding.{Dyadic}
 use Rattle.dyadic.specs.NumberText.{number_spelling}
@@ -24,7 +19,9 @@ use Rattle.cert_text.specs.declared.keyword.Plain.{Plain}
 use Rattle.cert_text.specs.declared.keyword.Plain.TheVariants as plain
 use Rattle.cert_text.specs.declared.keyword.Counted.{Counted}
 use Rattle.cert_text.specs.declared.keyword.Counted.TheVariants as counted
-use Rattle.cert_text.specs.Lines.{HasAppended, HasPairs, HasPairsLine, paired_off, plain_line, plain_text, counted_line, counted_word, is_marked, marks_word, marks_line, listed, most_atoms}
+use Rattle.cert_text.specs.declared.keyword.Multiplied.{Multiplied}
+use Rattle.cert_text.specs.declared.keyword.Multiplied.TheVariants as multiplied
+use Rattle.cert_text.specs.Lines.{HasAppended, HasPairs, HasPairsLine, paired_off, plain_line, plain_text, counted_line, counted_word, multiplied_line, multiplied_word, is_marked, marks_word, marks_line, listed, most_atoms}
 
 -- ---- texts of lines
 
@@ -114,15 +111,15 @@ counted-text counted.Checks n = refl
 counted-text counted.Cover n = refl
 counted-text counted.Keep n = refl
 counted-text counted.Lemma n = refl
-counted-text (counted.Atom atom.Pull) n = refl
-counted-text (counted.Atom atom.Unit) n = refl
-counted-text (counted.Atom atom.Void) n = refl
-counted-text (counted.Atom atom.Push) n = refl
-counted-text (counted.Atom atom.VoidNo) n = refl
-counted-text (counted.Atom atom.Case) n = refl
-counted-text (counted.Atom atom.Stuck) n = refl
+counted-text counted.Pull n = refl
+counted-text counted.Push n = refl
+counted-text counted.Void n = refl
+counted-text counted.VoidNo n = refl
 counted-text counted.By n = refl
+counted-text counted.Unit n = refl
 counted-text counted.Flip n = refl
+counted-text counted.Case n = refl
+counted-text counted.Stuck n = refl
 counted-text counted.Empty n = refl
 
 counted-spelled : (w : Counted) (n : ℕ) → IsCount n → HasSpelling (counted_line w n)
@@ -135,15 +132,15 @@ counted-spelled counted.Checks n h = h
 counted-spelled counted.Cover n h = h
 counted-spelled counted.Keep n h = h
 counted-spelled counted.Lemma n h = h
-counted-spelled (counted.Atom atom.Pull) n h = h
-counted-spelled (counted.Atom atom.Unit) n h = h
-counted-spelled (counted.Atom atom.Void) n h = h
-counted-spelled (counted.Atom atom.Push) n h = h
-counted-spelled (counted.Atom atom.VoidNo) n h = h
-counted-spelled (counted.Atom atom.Case) n h = h
-counted-spelled (counted.Atom atom.Stuck) n h = h
+counted-spelled counted.Pull n h = h
+counted-spelled counted.Push n h = h
+counted-spelled counted.Void n h = h
+counted-spelled counted.VoidNo n h = h
 counted-spelled counted.By n h = h
+counted-spelled counted.Unit n h = h
 counted-spelled counted.Flip n h = h
+counted-spelled counted.Case n h = h
+counted-spelled counted.Stuck n h = h
 counted-spelled counted.Empty n h = h
 
 counted-short : (w : Counted) → length (counted_word w) ≤ 16
@@ -156,15 +153,15 @@ counted-short counted.Checks = omega arith
 counted-short counted.Cover = omega arith
 counted-short counted.Keep = omega arith
 counted-short counted.Lemma = omega arith
-counted-short (counted.Atom atom.Pull) = omega arith
-counted-short (counted.Atom atom.Unit) = omega arith
-counted-short (counted.Atom atom.Void) = omega arith
-counted-short (counted.Atom atom.Push) = omega arith
-counted-short (counted.Atom atom.VoidNo) = omega arith
-counted-short (counted.Atom atom.Case) = omega arith
-counted-short (counted.Atom atom.Stuck) = omega arith
+counted-short counted.Pull = omega arith
+counted-short counted.Push = omega arith
+counted-short counted.Void = omega arith
+counted-short counted.VoidNo = omega arith
 counted-short counted.By = omega arith
+counted-short counted.Unit = omega arith
 counted-short counted.Flip = omega arith
+counted-short counted.Case = omega arith
+counted-short counted.Stuck = omega arith
 counted-short counted.Empty = omega arith
 
 pub counted_appended : (w : Counted) (n : ℕ) (a b c : List ℕ) → IsCount n → b ≡ a ++ (counted_word w ++ (32 ∷ decimal n)) → c ≡ b ++ (10 ∷ []) → HasAppended a (counted_line w n ∷ []) c
@@ -252,31 +249,31 @@ spaced-pairs : (w : List ℕ) (ps : List (ℕ × Dyadic)) → spaced (w ∷ pair
 spaced-pairs w [] = sym (append-nil w)
 spaced-pairs w ((j, l) ∷ ps) = ap (λ (t : List ℕ). w ++ (32 ∷ (decimal j ++ (32 ∷ t)))) (spaced-pairs (number_spelling l) ps)
 
-pairs-text : (r : CombinationRule) (ps : Multipliers) → line_text (rule_line (combination_line r ps)) ≡ word_text (rule_word (word.Combination r)) ++ paired_off ps
-pairs-text combination.Combine ps = spaced-pairs (codes "comb") ps
-pairs-text combination.VoidCombine ps = spaced-pairs (codes "voidcomb") ps
+pairs-text : (m : Multiplied) (ps : Multipliers) → line_text (multiplied_line m ps) ≡ multiplied_word m ++ paired_off ps
+pairs-text multiplied.Combine ps = spaced-pairs (codes "comb") ps
+pairs-text multiplied.VoidCombine ps = spaced-pairs (codes "voidcomb") ps
 
-pairs-spelled : (r : CombinationRule) (ps : Multipliers) → 0 < length ps → AllByRecursion IsSpelledPair ps → HasSpelling (rule_line (combination_line r ps))
-pairs-spelled combination.Combine ps h k = (h, k)
-pairs-spelled combination.VoidCombine ps h k = (h, k)
+pairs-spelled : (m : Multiplied) (ps : Multipliers) → 0 < length ps → AllByRecursion IsSpelledPair ps → HasSpelling (multiplied_line m ps)
+pairs-spelled multiplied.Combine ps h k = (h, k)
+pairs-spelled multiplied.VoidCombine ps h k = (h, k)
 
-pairs-short : (r : CombinationRule) → length (word_text (rule_word (word.Combination r))) ≤ 16
-pairs-short combination.Combine = omega arith
-pairs-short combination.VoidCombine = omega arith
+pairs-short : (m : Multiplied) → length (multiplied_word m) ≤ 16
+pairs-short multiplied.Combine = omega arith
+pairs-short multiplied.VoidCombine = omega arith
 
-pub pairs_line : (r : CombinationRule) (ps : Multipliers) (a b c d : List ℕ) → b ≡ a ++ word_text (rule_word (word.Combination r)) → HasPairs b ps c → d ≡ c ++ (10 ∷ []) → HasPairsLine a r ps d
-pairs_line r ps a b c d e h f =
-    let w : List ℕ = word_text (rule_word (word.Combination r)) in
-    let l : CertLine = rule_line (combination_line r ps) in
-    let text : c ≡ a ++ line_text l = h.written ∙ ap (λ (t : List ℕ). t ++ paired_off ps) e ∙ append_assoc a w (paired_off ps) ∙ ap (λ (t : List ℕ). a ++ t) (sym (pairs-text r ps)) in
+pub pairs_line : (m : Multiplied) (ps : Multipliers) (a b c d : List ℕ) → b ≡ a ++ multiplied_word m → HasPairs b ps c → d ≡ c ++ (10 ∷ []) → HasPairsLine a m ps d
+pairs_line m ps a b c d e h f =
+    let w : List ℕ = multiplied_word m in
+    let l : CertLine = multiplied_line m ps in
+    let text : c ≡ a ++ line_text l = h.written ∙ ap (λ (t : List ℕ). t ++ paired_off ps) e ∙ append_assoc a w (paired_off ps) ∙ ap (λ (t : List ℕ). a ++ t) (sym (pairs-text m ps)) in
     record {
       written = f ∙ ap (λ (t : List ℕ). t ++ (10 ∷ [])) text ∙ append_assoc a (line_text l) (10 ∷ []);
       spelled = h.spelled;
-      short = omega (arith, h.short, pairs-short r, ap length (pairs-text r ps), length-append w (paired_off ps));
+      short = omega (arith, h.short, pairs-short m, ap length (pairs-text m ps), length-append w (paired_off ps));
     }
 
-pub paired_appended : (r : CombinationRule) (ps : Multipliers) (a b : List ℕ) → 0 < length ps → length ps ≤ 64 → HasPairsLine a r ps b → HasAppended a (rule_line (combination_line r ps) ∷ []) b
-paired_appended r ps a b some few h = line_appended a b (rule_line (combination_line r ps)) (pairs-spelled r ps some h.spelled) (omega (arith, few, h.short)) h.written
+pub paired_appended : (m : Multiplied) (ps : Multipliers) (a b : List ℕ) → 0 < length ps → length ps ≤ 64 → HasPairsLine a m ps b → HasAppended a (multiplied_line m ps ∷ []) b
+paired_appended m ps a b some few h = line_appended a b (multiplied_line m ps) (pairs-spelled m ps some h.spelled) (omega (arith, few, h.short)) h.written
 
 -- ---- lines of marks
 

@@ -13,15 +13,14 @@ use Rattle.poly_graph.specs.ProblemViews.{Parts, problem_of}
 use Rattle.cover_data.specs.Margins.{loosenings_of, margins_of}
 use Rattle.cover_data.specs.declared.combination.Combination.{Combination}
 use Rattle.cover_data.specs.declared.margins.Options.{Options}
-use Rattle.cover_line.specs.declared.rule.CombinationRule.{CombinationRule}
-use Rattle.cover_line.specs.Views.{combination_line}
+use Rattle.cert_text.specs.declared.keyword.Multiplied.{Multiplied}
 use Rattle.cert_read.specs.CertLine.{CertLine, rule_line}
 use Rattle.cert_model.specs.Accepted.{certificate_text}
 use Rattle.cert_model.specs.Laws.{point_text}
 use Rattle.cover_book.specs.declared.node.Node.{Node}
 use Rattle.cover_book.specs.Model.{crossed_node}
 use Rattle.cover_book.specs.Views.{node_of}
-use Rattle.cert_text.specs.Lines.{HasAppended, HasPairsLine, is_marked, listed}
+use Rattle.cert_text.specs.Lines.{multiplied_line, HasAppended, HasPairsLine, is_marked, listed}
 use Rattle.cert_text.specs.Means.{IsPointCertificate}
 use Rattle.cert_text.specs.Parts.{HasNothingNext, IsNextTaken, header_lines, node_left}
 use Rattle.cert_text.specs.Stuck.{HasNoStuckState, IsFirstStuckState, IsStuckNode, first_stuck}
@@ -46,12 +45,12 @@ marked_numbers wanted marks = listed (numbers_from (is_marked wanted) 0 (map mar
 abbrev pub header_of : ℕ → Options → List CertLine
 header_of v o = header_lines (record (loosenings_of (margins_of o)) { version = v }) o.bound
 
-abbrev pub line_of_combination : CombinationRule → Combination → CertLine
-line_of_combination rule c = rule_line (combination_line rule (multipliers_of c.pairs.items))
+abbrev pub line_of_combination : Multiplied → Combination → CertLine
+line_of_combination word c = multiplied_line word (multipliers_of c.pairs.items)
 
 -- the line of these pairs was appended
-abbrev pub HasMultipliers : List ℕ → CombinationRule → List (ℕ × Dy) → List ℕ → Type 0
-HasMultipliers old rule pairs new = HasPairsLine old rule (multipliers_of pairs) new
+abbrev pub HasMultipliers : List ℕ → Multiplied → List (ℕ × Dy) → List ℕ → Type 0
+HasMultipliers old word pairs new = HasPairsLine old word (multipliers_of pairs) new
 
 -- ---- points
 

@@ -2,7 +2,7 @@
 use Rattle.std.specs.Prelude.{◌≡◌, ℕ, ◌≤◌, List, [], ◌∷◌, length, Bool, true, false, cond, Option, Some, None}
 use Rattle.std.specs.List.{list_any}
 use Rattle.cover_model.specs.State.{State}
-use Rattle.cover_model.specs.Rules.{Line, stuck}
+use Rattle.cover_model.specs.Rules.{Line, stuck, stay_by, stuck_atom}
 use Rattle.cover_model.specs.Derivation.{Tree}
 use Rattle.cert_model.specs.Due.{Standing}
 use Rattle.cover_book.specs.Model.{NodeModel, stuck_node, BookModel}
@@ -11,7 +11,7 @@ use Rattle.cover_book.specs.Tree.{TreeOf}
 use Rattle.cover_book.specs.Laws.{IsTreeOfBook}
 
 abbrev pub is_stuck_line : Line → Bool
-is_stuck_line (stuck j) = true
+is_stuck_line (stay_by (stuck_atom j)) = true
 is_stuck_line l = false
 
 -- the first state of these with a line that says that it is stuck

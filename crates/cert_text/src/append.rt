@@ -10,9 +10,9 @@ ghost use Rattle.cover_model.specs.Views.{multipliers_of};
 ghost use Rattle.cert_text.specs.Calls.{Appends, HasMultipliers, line_of_combination, marked_numbers};
 ghost use Rattle.cert_text.specs.Lines.{HasPairs, counted_line, is_marked, marks_line, marks_word, most_atoms, plain_line};
 
-use crate::keyword::{Counted, Plain, counted_bytes, plain_bytes};
+use crate::keyword::{Counted, Multiplied, Plain, counted_bytes, multiplied_bytes, plain_bytes};
 use cover_data::Combination;
-use cover_line::{CombinationRule, Word};
+use cover_line::Word;
 use dyadic::{Dy, write_dy};
 use itoa::Buffer;
 use poly_graph::Mark;
@@ -145,12 +145,12 @@ fn append_pairs(text: &mut Vec<u8>, pairs: &[(u32, Dy)]) -> Result<(), AllocErro
 /// Appends the line of atoms with their multipliers.
 pub(crate) fn append_multipliers(
     text: &mut Vec<u8>,
-    rule: CombinationRule,
+    word: Multiplied,
     pairs: &[(u32, Dy)],
 ) -> Result<(), AllocError>
-    ensures { OnOk result (HasMultipliers text.old.items rule pairs.now text.new.items) }
+    ensures { OnOk result (HasMultipliers text.old.items word pairs.now text.new.items) }
 {
-    text.extend_from_slice(Word::Combination(rule).text().as_bytes())?;
+    text.extend_from_slice(multiplied_bytes(word).as_bytes())?;
     append_pairs(text, pairs)?;
     append_break(text)
 }
@@ -158,12 +158,12 @@ pub(crate) fn append_multipliers(
 /// Appends the line of a combination of atoms.
 pub(crate) fn append_combination(
     text: &mut Vec<u8>,
-    rule: CombinationRule,
+    word: Multiplied,
     combination: &Combination,
 ) -> Result<(), AllocError>
-    ensures { Appends text.old text.new (line_of_combination rule combination.now ∷ []) result }
+    ensures { Appends text.old text.new (line_of_combination word combination.now ∷ []) result }
 {
-    append_multipliers(text, rule, &combination.pairs)
+    append_multipliers(text, word, &combination.pairs)
 }
 
 // Whether the atom is marked yes, or no.

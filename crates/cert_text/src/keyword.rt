@@ -1,8 +1,8 @@
 // The lines of a certificate that have no number, and the first words of those that have one plain number.
 ghost use Rattle.std.specs.Prelude.{◌≡◌};
-ghost use Rattle.cert_text.specs.Lines.{counted_word, plain_text};
+ghost use Rattle.cert_text.specs.Lines.{counted_word, multiplied_word, plain_text};
 
-use cover_line::{AtomRule, Word};
+use cover_line::{NarrowingKind, Word};
 
 /// A line without a number.
 #[derive(Clone, Copy, Debug, PartialEq, Eq)]
@@ -32,11 +32,23 @@ pub enum Counted {
     Cover,
     Keep,
     Lemma,
-    /// Of a tree, with an atom.
-    Atom(AtomRule),
+    Pull,
+    Push,
+    Void,
+    VoidNo,
     By,
+    Unit,
     Flip,
+    Case,
+    Stuck,
     Empty,
+}
+
+/// The first word of a line with atoms and their multipliers.
+#[derive(Clone, Copy, Debug, PartialEq, Eq)]
+pub enum Multiplied {
+    Combine,
+    VoidCombine,
 }
 
 /// The bytes of the line.
@@ -72,9 +84,25 @@ pub(crate) fn counted_bytes(word: Counted) -> &'static str
         Counted::Cover => "cover",
         Counted::Keep => "keep",
         Counted::Lemma => "lemma",
-        Counted::Atom(rule) => Word::Atom(rule).text(),
+        Counted::Pull => Word::Narrow(NarrowingKind::Pull).text(),
+        Counted::Push => Word::Narrow(NarrowingKind::Push).text(),
+        Counted::Void => Word::Void(NarrowingKind::Pull).text(),
+        Counted::VoidNo => Word::Void(NarrowingKind::Push).text(),
         Counted::By => Word::By.text(),
+        Counted::Unit => Word::Unit.text(),
         Counted::Flip => Word::Flip.text(),
+        Counted::Case => Word::Case.text(),
+        Counted::Stuck => Word::Stuck.text(),
         Counted::Empty => Word::Empty.text(),
+    }
+}
+
+/// The bytes of the word.
+pub(crate) fn multiplied_bytes(word: Multiplied) -> &'static str
+    ensures { result.now ≡ multiplied_word word }
+{
+    match word {
+        Multiplied::Combine => Word::Narrow(NarrowingKind::Combine).text(),
+        Multiplied::VoidCombine => Word::Void(NarrowingKind::Combine).text(),
     }
 }

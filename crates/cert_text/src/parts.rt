@@ -15,10 +15,9 @@ use crate::append::{
     append_ban, append_combination, append_counted, append_cut, append_interval, append_marks,
     append_plain, append_value,
 };
-use crate::keyword::{Counted, Plain};
+use crate::keyword::{Counted, Multiplied, Plain};
 use cover_book::{Learned, Lines};
 use cover_data::{End, Options, State, Step};
-use cover_line::{AtomRule, CombinationRule};
 use ival::{Domain, Space, Truths};
 use std::alloc::AllocError;
 
@@ -88,13 +87,13 @@ fn append_step(text: &mut Vec<u8>, step: &Step) -> Result<(), AllocError>
     ensures { Appends text.old text.new (rule_line (step_line step.now) ∷ []) result }
 {
     match step {
-        Step::Pull(atom) => append_counted(text, Counted::Atom(AtomRule::Pull), *atom),
-        Step::Push(atom) => append_counted(text, Counted::Atom(AtomRule::Push), *atom),
-        Step::Unit(atom) => append_counted(text, Counted::Atom(AtomRule::Unit), *atom),
+        Step::Pull(atom) => append_counted(text, Counted::Pull, *atom),
+        Step::Push(atom) => append_counted(text, Counted::Push, *atom),
+        Step::Unit(atom) => append_counted(text, Counted::Unit, *atom),
         Step::Ban(atom, lemma) => append_ban(text, *atom, *lemma),
         Step::Combine(combination) => append_combination(
             text,
-            CombinationRule::Combine,
+            Multiplied::Combine,
             combination,
         ),
     }
@@ -104,19 +103,19 @@ fn append_end(text: &mut Vec<u8>, end: &End) -> Result<(), AllocError>
     ensures { Appends text.old text.new (rule_line (end_line end.now) ∷ []) result }
 {
     match end {
-        End::Void(atom) => append_counted(text, Counted::Atom(AtomRule::Void), *atom),
-        End::VoidNo(atom) => append_counted(text, Counted::Atom(AtomRule::VoidNo), *atom),
+        End::Void(atom) => append_counted(text, Counted::Void, *atom),
+        End::VoidNo(atom) => append_counted(text, Counted::VoidNo, *atom),
         End::VoidCombine(combination) => append_combination(
             text,
-            CombinationRule::VoidCombine,
+            Multiplied::VoidCombine,
             combination,
         ),
         End::False => append_plain(text, Plain::False),
         End::By(lemma) => append_counted(text, Counted::By, *lemma),
         End::Cut(axis, at) => append_cut(text, *axis, *at),
         End::Flip(axis) => append_counted(text, Counted::Flip, *axis),
-        End::Case(atom) => append_counted(text, Counted::Atom(AtomRule::Case), *atom),
-        End::Stuck(atom) => append_counted(text, Counted::Atom(AtomRule::Stuck), *atom),
+        End::Case(atom) => append_counted(text, Counted::Case, *atom),
+        End::Stuck(atom) => append_counted(text, Counted::Stuck, *atom),
     }
 }
 

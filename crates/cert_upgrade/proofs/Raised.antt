@@ -4,7 +4,7 @@ use Rattle.std.proofs.Common.{◌≡◌, ℕ, suc, List, [], ◌∷◌, ◌++◌
 use Rattle.poly_graph.specs.Problem.{Declared, real_between, any_bool, Axis, Problem, crosses}
 use Rattle.cover_model.specs.State.{State, Loosenings, root_state}
 use Rattle.interval_model.specs.Space.{Space}
-use Rattle.cover_model.specs.Rules.{Line, pull, unit, void, push, void_no, combine, void_combine, ban, make_false, by, cut, flip, case, open_line, stuck, Left, closed, one, two, stays, rule, has_version_2, in_no_one_sided, is_combination, are_combinable, pulled, voided, narrowing_off, combining}
+use Rattle.cover_model.specs.Rules.{Line, pull, unit, void, ban, make_false, by, cut, flip, case, open_line, stuck, Left, closed, one, two, stays, rule, has_version_2, in_no_one_sided, is_combination, are_combinable, pulled, voided, narrowing_off, combining, narrow_by, by_range, by_off_range, by_combination, end_by, void_by, false_form, by_lemma, mark_by, unit_atom, ban_atom, branch_by, cut_axis, flip_axis, case_atom, stay_by, open_state, stuck_atom}
 use Rattle.cover_line.specs.Words.{word_of}
 use Rattle.cert_read.specs.CertLine.{CertLine, version, margin, delta, bound, cover, point_word, tree_word, end_word, lemma, real_interval, real_value, bool_value, says_false, says_true, yes_list, no_list, rule_line, crossing, Parsed, too_long, bad_line, bad_number, line, parsed}
 use Rattle.cert_model.specs.Due.{CertFault, BadHeader, BadNumber, WrongBound, Missing, NotShown, RuleFails, Standing, left_open, Due, version_due, margin_due, delta_due, bound_due, kind_due, next_due, axis_due, yes_due, no_due, lemma_due, root_due, tree_due, coordinate_due, end_due, nothing_due, Next, on, faulty, given, is_version, names_well, after_rule, after_lemma_rule, tree_goes_on, lemma_goes_on, axis_next, coordinate_next, is_crossed_box, is_shown, same_bound}
@@ -76,21 +76,21 @@ gated-twice false u w o = tt
 
 module _ (p : Problem) (s : Loosenings) where
   rule-raises : (lemmas : List State) (S : State) (l : Line) → RaisesLeft (rule p s lemmas S l) (rule p (in_version_2 s) lemmas S l)
-  rule-raises lemmas S (push j) = gated (has_version_2 s) (in_no_one_sided p S j) (pulled S (narrowing_off p s S j))
-  rule-raises lemmas S (void_no j) = gated (has_version_2 s) (in_no_one_sided p S j) (voided (narrowing_off p s S j))
-  rule-raises lemmas S (combine ms) = gated-twice (has_version_2 s) (is_combination ms) (are_combinable p S ms) (pulled S (combining p s S ms))
-  rule-raises lemmas S (void_combine ms) = gated-twice (has_version_2 s) (is_combination ms) (are_combinable p S ms) (voided (combining p s S ms))
-  rule-raises lemmas S (pull j) = same-left (rule p s lemmas S (pull j))
-  rule-raises lemmas S (unit j) = same-left (rule p s lemmas S (unit j))
-  rule-raises lemmas S (void j) = same-left (rule p s lemmas S (void j))
-  rule-raises lemmas S (ban j i) = same-left (rule p s lemmas S (ban j i))
-  rule-raises lemmas S make_false = same-left (rule p s lemmas S make_false)
-  rule-raises lemmas S (by i) = same-left (rule p s lemmas S (by i))
-  rule-raises lemmas S (cut axis c) = same-left (rule p s lemmas S (cut axis c))
-  rule-raises lemmas S (flip axis) = same-left (rule p s lemmas S (flip axis))
-  rule-raises lemmas S (case j) = same-left (rule p s lemmas S (case j))
-  rule-raises lemmas S open_line = same-left (rule p s lemmas S open_line)
-  rule-raises lemmas S (stuck j) = same-left (rule p s lemmas S (stuck j))
+  rule-raises lemmas S (narrow_by (by_off_range j)) = gated (has_version_2 s) (in_no_one_sided p S j) (pulled S (narrowing_off p s S j))
+  rule-raises lemmas S (end_by (void_by (by_off_range j))) = gated (has_version_2 s) (in_no_one_sided p S j) (voided (narrowing_off p s S j))
+  rule-raises lemmas S (narrow_by (by_combination ms)) = gated-twice (has_version_2 s) (is_combination ms) (are_combinable p S ms) (pulled S (combining p s S ms))
+  rule-raises lemmas S (end_by (void_by (by_combination ms))) = gated-twice (has_version_2 s) (is_combination ms) (are_combinable p S ms) (voided (combining p s S ms))
+  rule-raises lemmas S (narrow_by (by_range j)) = same-left (rule p s lemmas S (pull j))
+  rule-raises lemmas S (mark_by (unit_atom j)) = same-left (rule p s lemmas S (unit j))
+  rule-raises lemmas S (end_by (void_by (by_range j))) = same-left (rule p s lemmas S (void j))
+  rule-raises lemmas S (mark_by (ban_atom j i)) = same-left (rule p s lemmas S (ban j i))
+  rule-raises lemmas S (end_by false_form) = same-left (rule p s lemmas S make_false)
+  rule-raises lemmas S (end_by (by_lemma i)) = same-left (rule p s lemmas S (by i))
+  rule-raises lemmas S (branch_by (cut_axis axis c)) = same-left (rule p s lemmas S (cut axis c))
+  rule-raises lemmas S (branch_by (flip_axis axis)) = same-left (rule p s lemmas S (flip axis))
+  rule-raises lemmas S (branch_by (case_atom j)) = same-left (rule p s lemmas S (case j))
+  rule-raises lemmas S (stay_by open_state) = same-left (rule p s lemmas S open_line)
+  rule-raises lemmas S (stay_by (stuck_atom j)) = same-left (rule p s lemmas S (stuck j))
 
   -- ---- what comes of a line
 

@@ -8,7 +8,7 @@ use Rattle.interval_model.specs.Space.{Domain, real_domain, bool_domain, Space, 
 use Rattle.poly_graph.specs.Problem.{Declared, real_between, any_bool, Axis, Problem}
 use Rattle.poly_graph.specs.Marks.{Mark, marked_yes, marked_no}
 use Rattle.cover_model.specs.State.{State, Loosenings, undecided, with_mark, with_yes, with_no}
-use Rattle.cover_model.specs.Rules.{Line, pull, unit, ban, void, push, void_no, combine, void_combine, make_false, by, cut, flip, case, open_line, stuck, with_changed, when, two, rule}
+use Rattle.cover_model.specs.Rules.{Line, with_changed, when, two, rule, narrow_by, by_range, by_off_range, by_combination, end_by, void_by, false_form, by_lemma, mark_by, unit_atom, ban_atom, branch_by, cut_axis, flip_axis, case_atom, stay_by, open_state, stuck_atom}
 use Rattle.cover_model.specs.Fits.{FitsAxis, FitsAxes, FitsProblem}
 use Rattle.cover_data.specs.Runs.{CanPart, children, IsEnding}
 
@@ -60,21 +60,21 @@ Fit p None = Unit {0}
 Fit p (Some x) = FitsProblem p x.0 × FitsProblem p x.1
 
 children-fit-both : (p : Problem) (S : State) → FitsProblem p S → (l : Line) → CanPart l S → Fit p (children l S)
-children-fit-both p S f (cut axis c) h = (changed_state_fits p S f (lower_part c) (strictly_inside c) (low-fits c) axis h, changed_state_fits p S f (upper_part c) (strictly_inside c) (high-fits c) axis h)
-children-fit-both p S f (flip axis) h = (changed_state_fits p S f (keep false) is_undecided (keep-fits false) axis h, changed_state_fits p S f (keep true) is_undecided (keep-fits true) axis h)
-children-fit-both p S f (case j) h = (marked_fits p S f j marked_yes, marked_fits p S f j marked_no)
-children-fit-both p S f (pull j) h = tt
-children-fit-both p S f (unit j) h = tt
-children-fit-both p S f (ban j i) h = tt
-children-fit-both p S f (void j) h = tt
-children-fit-both p S f (push j) h = tt
-children-fit-both p S f (void_no j) h = tt
-children-fit-both p S f (combine ms) h = tt
-children-fit-both p S f (void_combine ms) h = tt
-children-fit-both p S f make_false h = tt
-children-fit-both p S f (by i) h = tt
-children-fit-both p S f open_line h = tt
-children-fit-both p S f (stuck j) h = tt
+children-fit-both p S f (branch_by (cut_axis axis c)) h = (changed_state_fits p S f (lower_part c) (strictly_inside c) (low-fits c) axis h, changed_state_fits p S f (upper_part c) (strictly_inside c) (high-fits c) axis h)
+children-fit-both p S f (branch_by (flip_axis axis)) h = (changed_state_fits p S f (keep false) is_undecided (keep-fits false) axis h, changed_state_fits p S f (keep true) is_undecided (keep-fits true) axis h)
+children-fit-both p S f (branch_by (case_atom j)) h = (marked_fits p S f j marked_yes, marked_fits p S f j marked_no)
+children-fit-both p S f (narrow_by (by_range j)) h = tt
+children-fit-both p S f (mark_by (unit_atom j)) h = tt
+children-fit-both p S f (mark_by (ban_atom j i)) h = tt
+children-fit-both p S f (end_by (void_by (by_range j))) h = tt
+children-fit-both p S f (narrow_by (by_off_range j)) h = tt
+children-fit-both p S f (end_by (void_by (by_off_range j))) h = tt
+children-fit-both p S f (narrow_by (by_combination ms)) h = tt
+children-fit-both p S f (end_by (void_by (by_combination ms))) h = tt
+children-fit-both p S f (end_by false_form) h = tt
+children-fit-both p S f (end_by (by_lemma i)) h = tt
+children-fit-both p S f (stay_by open_state) h = tt
+children-fit-both p S f (stay_by (stuck_atom j)) h = tt
 
 pub children_fit : (p : Problem) (S : State) → FitsProblem p S → (l : Line) → CanPart l S → (a b : State) → children l S ≡ Some (a, b) → FitsProblem p a × FitsProblem p b
 children_fit p S f l h a b e = subst (Fit p) e (children-fit-both p S f l h)
@@ -85,18 +85,18 @@ ends-if false x y h = absurd (true≢false (sym h))
 
 -- where a branch can stand, its rule holds
 pub can_end : (p : Problem) (s : Loosenings) (lemmas : List State) (S : State) (l : Line) → CanPart l S → (x : State × State) → children l S ≡ Some x → IsEnding (rule p s lemmas S l)
-can_end p s lemmas S (cut axis c) h x e = ends-if (test_axis (strictly_inside c) axis S.space) (with_changed S (lower_part c) axis) (with_changed S (upper_part c) axis) h
-can_end p s lemmas S (flip axis) h x e = ends-if (test_axis is_undecided axis S.space) (with_changed S (keep false) axis) (with_changed S (keep true) axis) h
-can_end p s lemmas S (case j) h x e = ends-if (undecided S j) (with_yes S j) (with_no S j) h
-can_end p s lemmas S (pull j) h x e = cc
-can_end p s lemmas S (unit j) h x e = cc
-can_end p s lemmas S (ban j i) h x e = cc
-can_end p s lemmas S (void j) h x e = cc
-can_end p s lemmas S (push j) h x e = cc
-can_end p s lemmas S (void_no j) h x e = cc
-can_end p s lemmas S (combine ms) h x e = cc
-can_end p s lemmas S (void_combine ms) h x e = cc
-can_end p s lemmas S make_false h x e = cc
-can_end p s lemmas S (by i) h x e = cc
-can_end p s lemmas S open_line h x e = cc
-can_end p s lemmas S (stuck j) h x e = cc
+can_end p s lemmas S (branch_by (cut_axis axis c)) h x e = ends-if (test_axis (strictly_inside c) axis S.space) (with_changed S (lower_part c) axis) (with_changed S (upper_part c) axis) h
+can_end p s lemmas S (branch_by (flip_axis axis)) h x e = ends-if (test_axis is_undecided axis S.space) (with_changed S (keep false) axis) (with_changed S (keep true) axis) h
+can_end p s lemmas S (branch_by (case_atom j)) h x e = ends-if (undecided S j) (with_yes S j) (with_no S j) h
+can_end p s lemmas S (narrow_by (by_range j)) h x e = cc
+can_end p s lemmas S (mark_by (unit_atom j)) h x e = cc
+can_end p s lemmas S (mark_by (ban_atom j i)) h x e = cc
+can_end p s lemmas S (end_by (void_by (by_range j))) h x e = cc
+can_end p s lemmas S (narrow_by (by_off_range j)) h x e = cc
+can_end p s lemmas S (end_by (void_by (by_off_range j))) h x e = cc
+can_end p s lemmas S (narrow_by (by_combination ms)) h x e = cc
+can_end p s lemmas S (end_by (void_by (by_combination ms))) h x e = cc
+can_end p s lemmas S (end_by false_form) h x e = cc
+can_end p s lemmas S (end_by (by_lemma i)) h x e = cc
+can_end p s lemmas S (stay_by open_state) h x e = cc
+can_end p s lemmas S (stay_by (stuck_atom j)) h x e = cc

@@ -5,7 +5,7 @@ use Rattle.interval_model.specs.Space.{Space, space_within, strictly_inside, low
 use Rattle.poly_graph.specs.Problem.{Problem}
 use Rattle.cover_model.specs.State.{State, Loosenings, in_yes, undecided, with_yes, with_no, may, covers}
 use Rattle.poly_graph.specs.Marks.{marks_within}
-use Rattle.cover_model.specs.Rules.{Line, pull, unit, ban, void, push, void_no, combine, void_combine, make_false, by, cut, flip, case, open_line, stuck, Left, closed, one, two, stays, narrowing, narrowing_off, combining, can_push, can_combine, lemma_covers, with_changed, when, voided, is_stuck_atom, rule}
+use Rattle.cover_model.specs.Rules.{Line, stuck, Left, closed, one, two, stays, narrowing, narrowing_off, combining, can_push, can_combine, lemma_covers, with_changed, when, voided, is_stuck_atom, rule, narrow_by, by_range, by_off_range, by_combination, end_by, void_by, false_form, by_lemma, mark_by, unit_atom, ban_atom, branch_by, cut_axis, flip_axis, case_atom, stay_by, open_state, stuck_atom}
 use Rattle.cover_model.specs.Derivation.{Tree, Lawful, at_step}
 use Rattle.cover_model.proofs.Within.{space_reflexive, space_through}
 use Rattle.poly_graph.proofs.Marks.{marks_reflexive, marks_through}
@@ -51,45 +51,45 @@ both-of (Some (a, b)) = two a b
 module _ (p : Problem) (s : Loosenings) (lemmas : List State) (S : State) where
   -- an end that closes leaves nothing
   pub closing_leaves : (l : Line) → IsTrue (is_closing l) → IsEnding (rule p s lemmas S l) → rule p s lemmas S l ≡ Some closed
-  closing_leaves (void j) c h = ends-void (in_yes S j) (narrowing p s S j) h
-  closing_leaves (void_no j) c h = ends-void (can_push p s S j) (narrowing_off p s S j) h
-  closing_leaves (void_combine ms) c h = ends-void (can_combine p s S ms) (combining p s S ms) h
-  closing_leaves make_false c h = ends-when (not (may p s S)) closed h
-  closing_leaves (by i) c h = ends-when (lemma_covers lemmas i S) closed h
-  closing_leaves (pull j) c h = absurd (true≢false (sym c))
-  closing_leaves (push j) c h = absurd (true≢false (sym c))
-  closing_leaves (combine ms) c h = absurd (true≢false (sym c))
-  closing_leaves (unit j) c h = absurd (true≢false (sym c))
-  closing_leaves (ban j i) c h = absurd (true≢false (sym c))
-  closing_leaves (cut axis x) c h = absurd (true≢false (sym c))
-  closing_leaves (flip axis) c h = absurd (true≢false (sym c))
-  closing_leaves (case j) c h = absurd (true≢false (sym c))
-  closing_leaves open_line c h = absurd (true≢false (sym c))
-  closing_leaves (stuck j) c h = absurd (true≢false (sym c))
+  closing_leaves (end_by (void_by (by_range j))) c h = ends-void (in_yes S j) (narrowing p s S j) h
+  closing_leaves (end_by (void_by (by_off_range j))) c h = ends-void (can_push p s S j) (narrowing_off p s S j) h
+  closing_leaves (end_by (void_by (by_combination ms))) c h = ends-void (can_combine p s S ms) (combining p s S ms) h
+  closing_leaves (end_by false_form) c h = ends-when (not (may p s S)) closed h
+  closing_leaves (end_by (by_lemma i)) c h = ends-when (lemma_covers lemmas i S) closed h
+  closing_leaves (narrow_by (by_range j)) c h = absurd (true≢false (sym c))
+  closing_leaves (narrow_by (by_off_range j)) c h = absurd (true≢false (sym c))
+  closing_leaves (narrow_by (by_combination ms)) c h = absurd (true≢false (sym c))
+  closing_leaves (mark_by (unit_atom j)) c h = absurd (true≢false (sym c))
+  closing_leaves (mark_by (ban_atom j i)) c h = absurd (true≢false (sym c))
+  closing_leaves (branch_by (cut_axis axis x)) c h = absurd (true≢false (sym c))
+  closing_leaves (branch_by (flip_axis axis)) c h = absurd (true≢false (sym c))
+  closing_leaves (branch_by (case_atom j)) c h = absurd (true≢false (sym c))
+  closing_leaves (stay_by open_state) c h = absurd (true≢false (sym c))
+  closing_leaves (stay_by (stuck_atom j)) c h = absurd (true≢false (sym c))
 
   pub stuck_stays : (j : ℕ) → IsEnding (rule p s lemmas S (stuck j)) → rule p s lemmas S (stuck j) ≡ Some stays
   stuck_stays j h = ends-when (is_stuck_atom p s S j) stays h
 
   -- a branch leaves its two states
   pub branch_leaves : (l : Line) (a b : State) → children l S ≡ Some (a, b) → IsEnding (rule p s lemmas S l) → rule p s lemmas S l ≡ Some (two a b)
-  branch_leaves (cut axis c) a b e h =
+  branch_leaves (branch_by (cut_axis axis c)) a b e h =
       subst (λ (x : Left). when (test_axis (strictly_inside c) axis S.space) (two (with_changed S (lower_part c) axis) (with_changed S (upper_part c) axis)) ≡ Some x) (ap both-of e)
       (ends-when (test_axis (strictly_inside c) axis S.space) (two (with_changed S (lower_part c) axis) (with_changed S (upper_part c) axis)) h)
-  branch_leaves (flip axis) a b e h =
+  branch_leaves (branch_by (flip_axis axis)) a b e h =
       subst (λ (x : Left). when (test_axis is_undecided axis S.space) (two (with_changed S (keep false) axis) (with_changed S (keep true) axis)) ≡ Some x) (ap both-of e)
       (ends-when (test_axis is_undecided axis S.space) (two (with_changed S (keep false) axis) (with_changed S (keep true) axis)) h)
-  branch_leaves (case j) a b e h =
+  branch_leaves (branch_by (case_atom j)) a b e h =
       subst (λ (x : Left). when (undecided S j) (two (with_yes S j) (with_no S j)) ≡ Some x) (ap both-of e)
       (ends-when (undecided S j) (two (with_yes S j) (with_no S j)) h)
-  branch_leaves (pull j) a b e h = cc
-  branch_leaves (unit j) a b e h = cc
-  branch_leaves (ban j i) a b e h = cc
-  branch_leaves (void j) a b e h = cc
-  branch_leaves (push j) a b e h = cc
-  branch_leaves (void_no j) a b e h = cc
-  branch_leaves (combine ms) a b e h = cc
-  branch_leaves (void_combine ms) a b e h = cc
-  branch_leaves make_false a b e h = cc
-  branch_leaves (by i) a b e h = cc
-  branch_leaves open_line a b e h = cc
-  branch_leaves (stuck j) a b e h = cc
+  branch_leaves (narrow_by (by_range j)) a b e h = cc
+  branch_leaves (mark_by (unit_atom j)) a b e h = cc
+  branch_leaves (mark_by (ban_atom j i)) a b e h = cc
+  branch_leaves (end_by (void_by (by_range j))) a b e h = cc
+  branch_leaves (narrow_by (by_off_range j)) a b e h = cc
+  branch_leaves (end_by (void_by (by_off_range j))) a b e h = cc
+  branch_leaves (narrow_by (by_combination ms)) a b e h = cc
+  branch_leaves (end_by (void_by (by_combination ms))) a b e h = cc
+  branch_leaves (end_by false_form) a b e h = cc
+  branch_leaves (end_by (by_lemma i)) a b e h = cc
+  branch_leaves (stay_by open_state) a b e h = cc
+  branch_leaves (stay_by (stuck_atom j)) a b e h = cc

@@ -11,7 +11,7 @@ use Rattle.poly_graph.specs.Problem.{Problem, IsProblem, atom_at}
 use Rattle.poly_graph.specs.Marks.{Mark, marked_yes, marked_no, marks_within}
 use Rattle.cover_model.specs.State.{State, Loosenings, margin_of, in_yes, undecided, with_mark, with_yes, with_no, with_space, may, covers}
 use Rattle.cover_model.specs.Combination.{Multipliers, marked_range}
-use Rattle.cover_model.specs.Rules.{Line, pull, unit, ban, void, push, void_no, combine, void_combine, make_false, by, cut, flip, case, open_line, stuck, Left, closed, one, two, stays, narrowing, narrowing_off, can_push, can_combine, combining, lemma_covers, with_changed, when, pulled, voided, is_stuck_atom, rule}
+use Rattle.cover_model.specs.Rules.{Line, Left, closed, one, two, stays, narrowing, narrowing_off, can_push, can_combine, combining, lemma_covers, with_changed, when, pulled, voided, is_stuck_atom, rule, narrow_by, by_range, by_off_range, by_combination, end_by, void_by, false_form, by_lemma, mark_by, unit_atom, ban_atom, branch_by, cut_axis, flip_axis, case_atom, stay_by, open_state, stuck_atom}
 use Rattle.cover_model.proofs.CombinationWithin.{combining_lies_within}
 use Rattle.cover_model.specs.Derivation.{Tree, Lawful, at_closed, at_left, at_step, at_fork, LiesWithin, LiesWithinIf, EachWithin}
 use Rattle.poly_graph.proofs.Marks
@@ -95,29 +95,29 @@ module _ (p : Problem) (g : IsProblem p) (s : Loosenings) where
 
   -- what a rule leaves lies within its state
   pub rule_within : (lemmas : List State) (S : State) (l : Line) → LiesWithinIf S (rule p s lemmas S l)
-  rule_within lemmas S (pull j) = by-cond (in_yes S j) (pulled S (narrowing p s S j)) S (pulled-within S (narrowing p s S j) (narrowing_within S j))
-  rule_within lemmas S (unit j) = by-when (undecided S j && not (may p s (with_no S j))) (one (with_yes S j)) S (λ e. mark_step S j marked_yes (both_true (undecided S j) _ e).0)
-  rule_within lemmas S (ban j k) = by-when (undecided S j && lemma_covers lemmas k (with_yes S j)) (one (with_no S j)) S (λ e. mark_step S j marked_no (both_true (undecided S j) _ e).0)
-  rule_within lemmas S (void j) = by-cond (in_yes S j) (voided (narrowing p s S j)) S (voided-within S (narrowing p s S j))
-  rule_within lemmas S (push j) = by-cond (can_push p s S j) (pulled S (narrowing_off p s S j)) S (pulled-within S (narrowing_off p s S j) (narrowing_off_within S j))
-  rule_within lemmas S (void_no j) = by-cond (can_push p s S j) (voided (narrowing_off p s S j)) S (voided-within S (narrowing_off p s S j))
-  rule_within lemmas S (combine ms) = by-cond (can_combine p s S ms) (pulled S (combining p s S ms)) S (pulled-within S (combining p s S ms) (combining_within S ms))
-  rule_within lemmas S (void_combine ms) = by-cond (can_combine p s S ms) (voided (combining p s S ms)) S (voided-within S (combining p s S ms))
-  rule_within lemmas S make_false = by-when (not (may p s S)) closed S (λ e. tt)
-  rule_within lemmas S (by k) = by-when (lemma_covers lemmas k S) closed S (λ e. tt)
-  rule_within lemmas S (cut axis c) = by-when (test_axis (strictly_inside c) axis S.space) (two (with_changed S (lower_part c) axis) (with_changed S (upper_part c) axis)) S
+  rule_within lemmas S (narrow_by (by_range j)) = by-cond (in_yes S j) (pulled S (narrowing p s S j)) S (pulled-within S (narrowing p s S j) (narrowing_within S j))
+  rule_within lemmas S (mark_by (unit_atom j)) = by-when (undecided S j && not (may p s (with_no S j))) (one (with_yes S j)) S (λ e. mark_step S j marked_yes (both_true (undecided S j) _ e).0)
+  rule_within lemmas S (mark_by (ban_atom j k)) = by-when (undecided S j && lemma_covers lemmas k (with_yes S j)) (one (with_no S j)) S (λ e. mark_step S j marked_no (both_true (undecided S j) _ e).0)
+  rule_within lemmas S (end_by (void_by (by_range j))) = by-cond (in_yes S j) (voided (narrowing p s S j)) S (voided-within S (narrowing p s S j))
+  rule_within lemmas S (narrow_by (by_off_range j)) = by-cond (can_push p s S j) (pulled S (narrowing_off p s S j)) S (pulled-within S (narrowing_off p s S j) (narrowing_off_within S j))
+  rule_within lemmas S (end_by (void_by (by_off_range j))) = by-cond (can_push p s S j) (voided (narrowing_off p s S j)) S (voided-within S (narrowing_off p s S j))
+  rule_within lemmas S (narrow_by (by_combination ms)) = by-cond (can_combine p s S ms) (pulled S (combining p s S ms)) S (pulled-within S (combining p s S ms) (combining_within S ms))
+  rule_within lemmas S (end_by (void_by (by_combination ms))) = by-cond (can_combine p s S ms) (voided (combining p s S ms)) S (voided-within S (combining p s S ms))
+  rule_within lemmas S (end_by false_form) = by-when (not (may p s S)) closed S (λ e. tt)
+  rule_within lemmas S (end_by (by_lemma k)) = by-when (lemma_covers lemmas k S) closed S (λ e. tt)
+  rule_within lemmas S (branch_by (cut_axis axis c)) = by-when (test_axis (strictly_inside c) axis S.space) (two (with_changed S (lower_part c) axis) (with_changed S (upper_part c) axis)) S
       (λ e. (
         space_step S (changed (lower_part c) axis S.space) (changed-within (lower_part c) (strictly_inside c) (lower-within c) axis S.space e),
         space_step S (changed (upper_part c) axis S.space) (changed-within (upper_part c) (strictly_inside c) (upper-within c) axis S.space e),
       ))
-  rule_within lemmas S (flip axis) = by-when (test_axis is_undecided axis S.space) (two (with_changed S (keep false) axis) (with_changed S (keep true) axis)) S
+  rule_within lemmas S (branch_by (flip_axis axis)) = by-when (test_axis is_undecided axis S.space) (two (with_changed S (keep false) axis) (with_changed S (keep true) axis)) S
       (λ e. (
         space_step S (changed (keep false) axis S.space) (changed-within (keep false) is_undecided (keep-within false) axis S.space e),
         space_step S (changed (keep true) axis S.space) (changed-within (keep true) is_undecided (keep-within true) axis S.space e),
       ))
-  rule_within lemmas S (case j) = by-when (undecided S j) (two (with_yes S j) (with_no S j)) S (λ e. (mark_step S j marked_yes e, mark_step S j marked_no e))
-  rule_within lemmas S open_line = tt
-  rule_within lemmas S (stuck j) = by-when (is_stuck_atom p s S j) stays S (λ e. tt)
+  rule_within lemmas S (branch_by (case_atom j)) = by-when (undecided S j) (two (with_yes S j) (with_no S j)) S (λ e. (mark_step S j marked_yes e, mark_step S j marked_no e))
+  rule_within lemmas S (stay_by open_state) = tt
+  rule_within lemmas S (stay_by (stuck_atom j)) = by-when (is_stuck_atom p s S j) stays S (λ e. tt)
 
   -- ---- trees
 

@@ -11,7 +11,7 @@ use Rattle.cover_model.specs.Space.{range}
 use Rattle.poly_graph.specs.Problem.{Problem, IsProblem, sorts_of_problem, atom_at, term_of, full_atom}
 use Rattle.poly_graph.specs.Marks.{Mark, marked_yes, marked_no, is_yes, is_no, marks_within}
 use Rattle.cover_model.specs.State.{State, Loosenings, margin_of, in_yes, in_no, undecided, with_yes, with_no, with_space, may, IsPointOf, MeetsForm, IsLemma, covers}
-use Rattle.cover_model.specs.Rules.{Line, pull, unit, ban, void, push, void_no, combine, void_combine, make_false, by, cut, flip, case, open_line, stuck, Left, closed, one, two, stays, narrowing, narrowing_off, has_version_2, is_one_sided, in_no_one_sided, can_push, can_combine, combining, covers_by, lemma_covers, with_changed, when, pulled, voided, is_stuck_atom, rule}
+use Rattle.cover_model.specs.Rules.{Line, Left, closed, one, two, stays, narrowing, narrowing_off, has_version_2, is_one_sided, in_no_one_sided, can_push, can_combine, combining, covers_by, lemma_covers, with_changed, when, pulled, voided, is_stuck_atom, rule, narrow_by, by_range, by_off_range, by_combination, end_by, void_by, false_form, by_lemma, mark_by, unit_atom, ban_atom, branch_by, cut_axis, flip_axis, case_atom, stay_by, open_state, stuck_atom}
 use Rattle.cover_model.specs.Derivation.{Tree, Lawful, at_closed, at_left, at_step, at_fork, Keeps, KeepsIf, Among, here, later, AreLemmas}
 use Rattle.poly_graph.proofs.Marks.{set_or_same, yes_within, no_within}
 use Rattle.cover_model.specs.Combination.{Multipliers}
@@ -164,25 +164,25 @@ module _ (p : Problem) (s : Loosenings) where
 
     -- a point of the state that meets the form is a point of some state that the rule leaves
     pub rule_keeps : (lemmas : List State) → AreLemmas p s lemmas → (S : State) (l : Line) → (point : List Coordinate) → IsPointOf p s S point → MeetsForm p s point → KeepsIf p s (rule p s lemmas S l) S point
-    rule_keeps lemmas f S (pull j) point i h = by-cond (in_yes S j) (in_yes S j) (pulled S (narrowing p s S j)) S point refl (pull-keeps S point i j)
-    rule_keeps lemmas f S (unit j) point i h = by-when (undecided S j && not (may p s (with_no S j))) (one (with_yes S j)) S point
+    rule_keeps lemmas f S (narrow_by (by_range j)) point i h = by-cond (in_yes S j) (in_yes S j) (pulled S (narrowing p s S j)) S point refl (pull-keeps S point i j)
+    rule_keeps lemmas f S (mark_by (unit_atom j)) point i h = by-when (undecided S j && not (may p s (with_no S j))) (one (with_yes S j)) S point
         (λ e. elim (atom_split S point i j) [ inl k ↦ k | inr k ↦ absurd (not_both (may p s (with_no S j)) (may_is p g s (with_no S j) point k h) (both_true (undecided S j) _ e).1) ])
-    rule_keeps lemmas f S (ban j k) point i h = by-when (undecided S j && lemma_covers lemmas k (with_yes S j)) (one (with_no S j)) S point
+    rule_keeps lemmas f S (mark_by (ban_atom j k)) point i h = by-when (undecided S j && lemma_covers lemmas k (with_yes S j)) (one (with_no S j)) S point
         (λ e. elim (atom_split S point i j) [ inl a ↦ absurd (no-point lemmas f k (with_yes S j) point (both_true (undecided S j) _ e).1 a h) | inr a ↦ a ])
-    rule_keeps lemmas f S (void j) point i h = by-cond (in_yes S j) (in_yes S j) (voided (narrowing p s S j)) S point refl (void-keeps S point i j)
-    rule_keeps lemmas f S (push j) point i h = by-cond (can_push p s S j) (can_push p s S j) (pulled S (narrowing_off p s S j)) S point refl (push-keeps S point i j)
-    rule_keeps lemmas f S (void_no j) point i h = by-cond (can_push p s S j) (can_push p s S j) (voided (narrowing_off p s S j)) S point refl (void-no-keeps S point i j)
-    rule_keeps lemmas f S (combine ms) point i h = by-cond (can_combine p s S ms) (can_combine p s S ms) (pulled S (combining p s S ms)) S point refl (combine-keeps S point i ms)
-    rule_keeps lemmas f S (void_combine ms) point i h = by-cond (can_combine p s S ms) (can_combine p s S ms) (voided (combining p s S ms)) S point refl (void-combine-keeps S point i ms)
-    rule_keeps lemmas f S make_false point i h = by-when (not (may p s S)) closed S point (λ e. not_both (may p s S) (may_is p g s S point i h) e)
-    rule_keeps lemmas f S (by k) point i h = by-when (lemma_covers lemmas k S) closed S point (λ e. no-point lemmas f k S point e i h)
-    rule_keeps lemmas f S (cut axis c) point i h = by-when (test_axis (strictly_inside c) axis S.space) (two (with_changed S (lower_part c) axis) (with_changed S (upper_part c) axis)) S point
+    rule_keeps lemmas f S (end_by (void_by (by_range j))) point i h = by-cond (in_yes S j) (in_yes S j) (voided (narrowing p s S j)) S point refl (void-keeps S point i j)
+    rule_keeps lemmas f S (narrow_by (by_off_range j)) point i h = by-cond (can_push p s S j) (can_push p s S j) (pulled S (narrowing_off p s S j)) S point refl (push-keeps S point i j)
+    rule_keeps lemmas f S (end_by (void_by (by_off_range j))) point i h = by-cond (can_push p s S j) (can_push p s S j) (voided (narrowing_off p s S j)) S point refl (void-no-keeps S point i j)
+    rule_keeps lemmas f S (narrow_by (by_combination ms)) point i h = by-cond (can_combine p s S ms) (can_combine p s S ms) (pulled S (combining p s S ms)) S point refl (combine-keeps S point i ms)
+    rule_keeps lemmas f S (end_by (void_by (by_combination ms))) point i h = by-cond (can_combine p s S ms) (can_combine p s S ms) (voided (combining p s S ms)) S point refl (void-combine-keeps S point i ms)
+    rule_keeps lemmas f S (end_by false_form) point i h = by-when (not (may p s S)) closed S point (λ e. not_both (may p s S) (may_is p g s S point i h) e)
+    rule_keeps lemmas f S (end_by (by_lemma k)) point i h = by-when (lemma_covers lemmas k S) closed S point (λ e. no-point lemmas f k S point e i h)
+    rule_keeps lemmas f S (branch_by (cut_axis axis c)) point i h = by-when (test_axis (strictly_inside c) axis S.space) (two (with_changed S (lower_part c) axis) (with_changed S (upper_part c) axis)) S point
         (λ e. elim (space-parts (lower_part c) (upper_part c) (part-cut c) axis S.space point i.inside) [ inl k ↦ inl (with-space S point i _ k) | inr k ↦ inr (with-space S point i _ k) ])
-    rule_keeps lemmas f S (flip axis) point i h = by-when (test_axis is_undecided axis S.space) (two (with_changed S (keep false) axis) (with_changed S (keep true) axis)) S point
+    rule_keeps lemmas f S (branch_by (flip_axis axis)) point i h = by-when (test_axis is_undecided axis S.space) (two (with_changed S (keep false) axis) (with_changed S (keep true) axis)) S point
         (λ e. elim (space-parts (keep false) (keep true) part-flip axis S.space point i.inside) [ inl k ↦ inl (with-space S point i _ k) | inr k ↦ inr (with-space S point i _ k) ])
-    rule_keeps lemmas f S (case j) point i h = by-when (undecided S j) (two (with_yes S j) (with_no S j)) S point (λ e. atom_split S point i j)
-    rule_keeps lemmas f S open_line point i h = tt
-    rule_keeps lemmas f S (stuck j) point i h = by-when (is_stuck_atom p s S j) stays S point (λ e. tt)
+    rule_keeps lemmas f S (branch_by (case_atom j)) point i h = by-when (undecided S j) (two (with_yes S j) (with_no S j)) S point (λ e. atom_split S point i j)
+    rule_keeps lemmas f S (stay_by open_state) point i h = tt
+    rule_keeps lemmas f S (stay_by (stuck_atom j)) point i h = by-when (is_stuck_atom p s S j) stays S point (λ e. tt)
 
     -- a whole tree: each point of its state that meets the form is one of a state that stays
     pub tree_keeps : (lemmas : List State) → AreLemmas p s lemmas → {S : State} {t : Tree} {rest : List State} → Lawful p s lemmas S t rest →

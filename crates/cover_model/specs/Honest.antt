@@ -7,7 +7,7 @@ use Rattle.interval_model.specs.Space.{Domain, real_domain, bool_domain, Space, 
 use Rattle.poly_graph.specs.Problem.{Problem}
 use Rattle.poly_graph.specs.Marks.{Mark, is_yes}
 use Rattle.cover_model.specs.State.{State, Loosenings, margin_of, in_yes, with_no, may, sure, misses}
-use Rattle.cover_model.specs.Rules.{Line, cut, flip, case, open_line, stuck, narrowing, is_stuck_atom}
+use Rattle.cover_model.specs.Rules.{Line, cut, stuck, narrowing, is_stuck_atom, branch_by, cut_axis, flip_axis, case_atom, stay_by, open_state, stuck_atom}
 
 -- ---- a state to which nothing more can be done without a branch
 
@@ -84,16 +84,14 @@ none_below p s S (suc j) = not (is_stuck_atom p s S j) && none_below p s S j
 -- ---- honesty, where w is the number of bits of the least width
 
 abbrev pub is_honest : Problem → ℕ → Loosenings → State → Line → Bool
-is_honest p w s S (cut axis c) = not_shown p s S && settled p s S && is_wide w axis (widest S.space) && is_middle_at axis c S.space
-is_honest p w s S (flip axis) = not_shown p s S && settled p s S
-is_honest p w s S (case j) = not_shown p s S && settled p s S && may p s (with_no S j) && not (misses p (margin_of s) S.space j)
-is_honest p w s S (stuck j) = not_shown p s S && settled p s S && is_small w S.space && none_below p s S j
-is_honest p w s S open_line = not_shown p s S
+is_honest p w s S (branch_by (cut_axis axis c)) = not_shown p s S && settled p s S && is_wide w axis (widest S.space) && is_middle_at axis c S.space
+is_honest p w s S (branch_by (flip_axis axis)) = not_shown p s S && settled p s S
+is_honest p w s S (branch_by (case_atom j)) = not_shown p s S && settled p s S && may p s (with_no S j) && not (misses p (margin_of s) S.space j)
+is_honest p w s S (stay_by (stuck_atom j)) = not_shown p s S && settled p s S && is_small w S.space && none_below p s S j
+is_honest p w s S (stay_by open_state) = not_shown p s S
 is_honest p w s S l = true
 
 -- one for a branch, else none
 abbrev pub branch_count : Line → ℕ
-branch_count (cut axis c) = 1
-branch_count (flip axis) = 1
-branch_count (case j) = 1
+branch_count (branch_by b) = 1
 branch_count l = 0

@@ -1,7 +1,7 @@
 -- The lines of a cover, each with its condition on a state and the states that it leaves.
 use Rattle.std.specs.Prelude.{ℕ, List, [], ◌∷◌, length, Bool, true, false, cond, not, ◌&&◌, ◌||◌, Option, Some, None, nat_le, nat_lt, slice_get}
 use Rattle.dyadic.specs.Rounding.{Dyadic}
-pub use Rattle.cover_line.specs.Line.{Line, pull, unit, void, push, void_no, combine, void_combine, ban, make_false, by, cut, flip, case, open_line, stuck}
+pub use Rattle.cover_line.specs.Line.{Line, narrow_by, end_by, mark_by, branch_by, stay_by, Narrowing, by_range, by_off_range, by_combination, Ending, void_by, false_form, by_lemma, Marking, unit_atom, ban_atom, Branching, cut_axis, flip_axis, case_atom, Staying, open_state, stuck_atom, pull, unit, void, push, void_no, combine, void_combine, ban, make_false, by, cut, flip, case, open_line, stuck}
 use Rattle.interval_model.specs.Interval.{misses_nought}
 use Rattle.poly_graph.specs.Term.{Kind, le, ge, eq}
 use Rattle.interval_model.specs.Space.{Domain, Space, strictly_inside, lower_part, upper_part, is_undecided, keep, changed, test_axis}
@@ -85,6 +85,54 @@ lemma_covers lemmas i S = covers_by (slice_get lemmas i) S
 abbrev pub with_changed : State → (Domain → Domain) → ℕ → State
 with_changed S f axis = with_space S (changed f axis S.space)
 
+-- ---- shapes
+
+-- narrowing by it is lawful
+abbrev pub can_narrow : Problem → Loosenings → State → Narrowing → Bool
+can_narrow p s S (by_range j) = in_yes S j
+can_narrow p s S (by_off_range j) = can_push p s S j
+can_narrow p s S (by_combination ms) = can_combine p s S ms
+
+-- what it leaves of the space, none where nothing is left
+abbrev pub narrowed_to : Problem → Loosenings → State → Narrowing → Option Space
+narrowed_to p s S (by_range j) = narrowing p s S j
+narrowed_to p s S (by_off_range j) = narrowing_off p s S j
+narrowed_to p s S (by_combination ms) = combining p s S ms
+
+-- the atom may be marked so
+abbrev pub can_mark : Problem → Loosenings → List State → State → Marking → Bool
+can_mark p s lemmas S (unit_atom j) = undecided S j && not (may p s (with_no S j))
+can_mark p s lemmas S (ban_atom j i) = undecided S j && lemma_covers lemmas i (with_yes S j)
+
+abbrev pub marked : State → Marking → State
+marked S (unit_atom j) = with_yes S j
+marked S (ban_atom j i) = with_no S j
+
+-- the state can be parted there
+abbrev pub can_branch : State → Branching → Bool
+can_branch S (cut_axis axis c) = test_axis (strictly_inside c) axis S.space
+can_branch S (flip_axis axis) = test_axis is_undecided axis S.space
+can_branch S (case_atom j) = undecided S j
+
+abbrev pub first_child : State → Branching → State
+first_child S (cut_axis axis c) = with_changed S (lower_part c) axis
+first_child S (flip_axis axis) = with_changed S (keep false) axis
+first_child S (case_atom j) = with_yes S j
+
+abbrev pub second_child : State → Branching → State
+second_child S (cut_axis axis c) = with_changed S (upper_part c) axis
+second_child S (flip_axis axis) = with_changed S (keep true) axis
+second_child S (case_atom j) = with_no S j
+
+-- atom j may hold and does not surely hold
+abbrev pub is_stuck_atom : Problem → Loosenings → State → ℕ → Bool
+is_stuck_atom p s S j = not (in_no S j) && not (misses p (margin_of s) S.space j) && not (sure_at p (delta_of s) S.space j)
+
+-- the state may stay so
+abbrev pub can_stay : Problem → Loosenings → State → Staying → Bool
+can_stay p s S open_state = true
+can_stay p s S (stuck_atom j) = is_stuck_atom p s S j
+
 -- ---- the rules
 
 abbrev pub when : Bool → Left → Option Left
@@ -99,26 +147,15 @@ abbrev pub voided : Option Space → Option Left
 voided None = Some closed
 voided (Some space) = None
 
--- atom j may hold and does not surely hold
-abbrev pub is_stuck_atom : Problem → Loosenings → State → ℕ → Bool
-is_stuck_atom p s S j = not (in_no S j) && not (misses p (margin_of s) S.space j) && not (sure_at p (delta_of s) S.space j)
+abbrev pub ending : Problem → Loosenings → List State → State → Ending → Option Left
+ending p s lemmas S (void_by n) = cond (can_narrow p s S n) (voided (narrowed_to p s S n)) None
+ending p s lemmas S false_form = when (not (may p s S)) closed
+ending p s lemmas S (by_lemma i) = when (lemma_covers lemmas i S) closed
 
 -- none, where the line's condition fails
 abbrev pub rule : Problem → Loosenings → List State → State → Line → Option Left
-rule p s lemmas S (pull j) = cond (in_yes S j) (pulled S (narrowing p s S j)) None
-rule p s lemmas S (unit j) = when (undecided S j && not (may p s (with_no S j))) (one (with_yes S j))
-rule p s lemmas S (ban j i) = when (undecided S j && lemma_covers lemmas i (with_yes S j)) (one (with_no S j))
-rule p s lemmas S (void j) = cond (in_yes S j) (voided (narrowing p s S j)) None
-rule p s lemmas S (push j) = cond (can_push p s S j) (pulled S (narrowing_off p s S j)) None
-rule p s lemmas S (void_no j) = cond (can_push p s S j) (voided (narrowing_off p s S j)) None
-rule p s lemmas S (combine ms) = cond (can_combine p s S ms) (pulled S (combining p s S ms)) None
-rule p s lemmas S (void_combine ms) = cond (can_combine p s S ms) (voided (combining p s S ms)) None
-rule p s lemmas S make_false = when (not (may p s S)) closed
-rule p s lemmas S (by i) = when (lemma_covers lemmas i S) closed
-rule p s lemmas S (cut axis c) = when (test_axis (strictly_inside c) axis S.space)
-    (two (with_changed S (lower_part c) axis) (with_changed S (upper_part c) axis))
-rule p s lemmas S (flip axis) = when (test_axis is_undecided axis S.space)
-    (two (with_changed S (keep false) axis) (with_changed S (keep true) axis))
-rule p s lemmas S (case j) = when (undecided S j) (two (with_yes S j) (with_no S j))
-rule p s lemmas S open_line = Some stays
-rule p s lemmas S (stuck j) = when (is_stuck_atom p s S j) stays
+rule p s lemmas S (narrow_by n) = cond (can_narrow p s S n) (pulled S (narrowed_to p s S n)) None
+rule p s lemmas S (end_by e) = ending p s lemmas S e
+rule p s lemmas S (mark_by m) = when (can_mark p s lemmas S m) (one (marked S m))
+rule p s lemmas S (branch_by b) = when (can_branch S b) (two (first_child S b) (second_child S b))
+rule p s lemmas S (stay_by t) = when (can_stay p s S t) stays

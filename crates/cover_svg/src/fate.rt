@@ -4,7 +4,7 @@ ghost use Rattle.cert_read.specs.Views.{line_of};
 ghost use Rattle.cover_svg.specs.Fates.{fate_by};
 
 use cert_read::Line;
-use cover_line::{AtomRule, CombinationRule, Rule};
+use cover_line::{Ending, Rule, Staying};
 
 /// How a branch of the tree ends.
 #[derive(Clone, Copy, Debug, PartialEq, Eq)]
@@ -24,12 +24,11 @@ pub fn fate_by(line: &Line) -> Option<Fate>
         return None;
     };
     match rule {
-        Rule::Atom(AtomRule::Void, _) | Rule::Atom(AtomRule::VoidNo, _) => Some(Fate::Void),
-        Rule::Combination(CombinationRule::VoidCombine, _) => Some(Fate::Void),
-        Rule::Atom(AtomRule::Stuck, _) => Some(Fate::Stuck),
-        Rule::False => Some(Fate::False),
-        Rule::By(_) => Some(Fate::By),
-        Rule::Open => Some(Fate::Open),
-        _ => None,
+        Rule::End(Ending::Void(_)) => Some(Fate::Void),
+        Rule::End(Ending::False) => Some(Fate::False),
+        Rule::End(Ending::By(_)) => Some(Fate::By),
+        Rule::Stay(Staying::Open) => Some(Fate::Open),
+        Rule::Stay(Staying::Stuck(_)) => Some(Fate::Stuck),
+        Rule::Narrow(_) | Rule::Mark(_) | Rule::Branch(_) => None,
     }
 }

@@ -10,7 +10,7 @@ use crate::leaf::{Engine, pass_leaf};
 use cert_resume::{Going, Task};
 use cert_text::append_rule;
 use cover_data::{Point, State};
-use cover_line::{AtomRule, Rule};
+use cover_line::Rule;
 use solve_core::Gate;
 use std::alloc::AllocError;
 use std::sync::Wait;
@@ -20,7 +20,7 @@ use std::thread::Threads;
 fn is_leaving(rule: &Rule) -> bool
     ensures { result ≡ is_leaving (line_of rule.now) }
 {
-    matches!(rule, Rule::Open | Rule::Atom(AtomRule::Stuck, _))
+    matches!(rule, Rule::Stay(_))
 }
 
 /// Goes through the lines of a main tree, of which those that leave their states leave these. Answers the point that was

@@ -14,7 +14,7 @@ use Rattle.cover_model.specs.OffRange.{off_range}
 use Rattle.cover_model.specs.State.{State, Loosenings, margin_of, in_yes, undecided, with_yes, with_no, may}
 use Rattle.cover_model.specs.Narrowed.{from_parents, own, narrowed_from, narrowed, some_empty, set_axis, with_axes, enclosures, narrowed_by}
 use Rattle.cover_model.specs.Combination.{Multipliers, Part, Expansion, expansion, range_of, part_range, allowed_range, tightened, with_axis, with_intervals, combined_about, marked_range}
-use Rattle.cover_model.specs.Rules.{Line, pull, unit, ban, void, push, void_no, combine, void_combine, make_false, by, cut, flip, case, open_line, stuck, Left, closed, one, two, stays, narrowing, narrowing_off, can_push, can_combine, combining, lemma_covers, when, pulled, voided, is_stuck_atom, rule}
+use Rattle.cover_model.specs.Rules.{Line, open_line, stuck, Left, closed, one, two, stays, narrowing, narrowing_off, can_push, can_combine, combining, lemma_covers, when, pulled, voided, is_stuck_atom, rule, narrow_by, by_range, by_off_range, by_combination, end_by, void_by, false_form, by_lemma, mark_by, unit_atom, ban_atom, branch_by, cut_axis, flip_axis, case_atom, stay_by, open_state, stuck_atom}
 
 -- ---- intervals
 
@@ -182,20 +182,20 @@ voided-upright Q (Some space) = tt
 module _ (p : Problem) (s : Loosenings) (lemmas : List State) (S : State) (u : IsTrue (is_upright S.space)) where
   -- Q follows for the lines at which a state may stay
   pub rule_upright : (l : Line) (Q : Type 0) → (l ≡ open_line → Q) → ((j : ℕ) → l ≡ stuck j → IsTrue (is_stuck_atom p s S j) → Q) → UprightIf Q (rule p s lemmas S l)
-  rule_upright (pull j) Q f g = by-cond Q (in_yes S j) (pulled S (narrowing p s S j)) (pulled-upright Q S (narrowing p s S j) (λ x e. narrowed-upright p.nodes (atom_at p j).0 (range (margin_of s) (atom_at p j).1) S.space x u e))
-  rule_upright (unit j) Q f g = by-when Q (undecided S j && not (may p s (with_no S j))) (one (with_yes S j)) (λ e. u)
-  rule_upright (ban j k) Q f g = by-when Q (undecided S j && lemma_covers lemmas k (with_yes S j)) (one (with_no S j)) (λ e. u)
-  rule_upright (void j) Q f g = by-cond Q (in_yes S j) (voided (narrowing p s S j)) (voided-upright Q (narrowing p s S j))
-  rule_upright (push j) Q f g = by-cond Q (can_push p s S j) (pulled S (narrowing_off p s S j)) (pulled-upright Q S (narrowing_off p s S j) (λ x e. narrowed-upright p.nodes (atom_at p j).0 (off_range (margin_of s) (atom_at p j).1) S.space x u e))
-  rule_upright (void_no j) Q f g = by-cond Q (can_push p s S j) (voided (narrowing_off p s S j)) (voided-upright Q (narrowing_off p s S j))
-  rule_upright (combine ms) Q f g = by-cond Q (can_combine p s S ms) (pulled S (combining p s S ms)) (pulled-upright Q S (combining p s S ms) (λ x e. combined-upright p (marked_range p (margin_of s) S.marks) S.space (middle S.space) ms x u e))
-  rule_upright (void_combine ms) Q f g = by-cond Q (can_combine p s S ms) (voided (combining p s S ms)) (voided-upright Q (combining p s S ms))
-  rule_upright make_false Q f g = by-when Q (not (may p s S)) closed (λ e. tt)
-  rule_upright (by k) Q f g = by-when Q (lemma_covers lemmas k S) closed (λ e. tt)
-  rule_upright (cut axis c) Q f g = by-when Q (test_axis (strictly_inside c) axis S.space) _
+  rule_upright (narrow_by (by_range j)) Q f g = by-cond Q (in_yes S j) (pulled S (narrowing p s S j)) (pulled-upright Q S (narrowing p s S j) (λ x e. narrowed-upright p.nodes (atom_at p j).0 (range (margin_of s) (atom_at p j).1) S.space x u e))
+  rule_upright (mark_by (unit_atom j)) Q f g = by-when Q (undecided S j && not (may p s (with_no S j))) (one (with_yes S j)) (λ e. u)
+  rule_upright (mark_by (ban_atom j k)) Q f g = by-when Q (undecided S j && lemma_covers lemmas k (with_yes S j)) (one (with_no S j)) (λ e. u)
+  rule_upright (end_by (void_by (by_range j))) Q f g = by-cond Q (in_yes S j) (voided (narrowing p s S j)) (voided-upright Q (narrowing p s S j))
+  rule_upright (narrow_by (by_off_range j)) Q f g = by-cond Q (can_push p s S j) (pulled S (narrowing_off p s S j)) (pulled-upright Q S (narrowing_off p s S j) (λ x e. narrowed-upright p.nodes (atom_at p j).0 (off_range (margin_of s) (atom_at p j).1) S.space x u e))
+  rule_upright (end_by (void_by (by_off_range j))) Q f g = by-cond Q (can_push p s S j) (voided (narrowing_off p s S j)) (voided-upright Q (narrowing_off p s S j))
+  rule_upright (narrow_by (by_combination ms)) Q f g = by-cond Q (can_combine p s S ms) (pulled S (combining p s S ms)) (pulled-upright Q S (combining p s S ms) (λ x e. combined-upright p (marked_range p (margin_of s) S.marks) S.space (middle S.space) ms x u e))
+  rule_upright (end_by (void_by (by_combination ms))) Q f g = by-cond Q (can_combine p s S ms) (voided (combining p s S ms)) (voided-upright Q (combining p s S ms))
+  rule_upright (end_by false_form) Q f g = by-when Q (not (may p s S)) closed (λ e. tt)
+  rule_upright (end_by (by_lemma k)) Q f g = by-when Q (lemma_covers lemmas k S) closed (λ e. tt)
+  rule_upright (branch_by (cut_axis axis c)) Q f g = by-when Q (test_axis (strictly_inside c) axis S.space) _
       (λ e. (changed-upright (lower_part c) (strictly_inside c) (lower-upright c) axis S.space u e, changed-upright (upper_part c) (strictly_inside c) (upper-upright c) axis S.space u e))
-  rule_upright (flip axis) Q f g = by-when Q (test_axis is_undecided axis S.space) _
+  rule_upright (branch_by (flip_axis axis)) Q f g = by-when Q (test_axis is_undecided axis S.space) _
       (λ e. (changed-upright (keep false) is_undecided (keep-upright false) axis S.space u e, changed-upright (keep true) is_undecided (keep-upright true) axis S.space u e))
-  rule_upright (case j) Q f g = by-when Q (undecided S j) (two (with_yes S j) (with_no S j)) (λ e. (u, u))
-  rule_upright open_line Q f g = f refl
-  rule_upright (stuck j) Q f g = by-when Q (is_stuck_atom p s S j) stays (g j refl)
+  rule_upright (branch_by (case_atom j)) Q f g = by-when Q (undecided S j) (two (with_yes S j) (with_no S j)) (λ e. (u, u))
+  rule_upright (stay_by open_state) Q f g = f refl
+  rule_upright (stay_by (stuck_atom j)) Q f g = by-when Q (is_stuck_atom p s S j) stays (g j refl)

@@ -15,6 +15,6 @@ returns c =
     let seen : ℕ × Dy → ℕ × Dyadic = λ x. (x.0, dyadic_of x.1) in
     let count : length (map seen pairs) ≡ length pairs = length-map pairs seen in
     on_ok_weaker c.append_multipliers.result
-    (λ e. paired_appended c.args.rule (multipliers_of pairs) _ _ (omega (arith, count, c.args.combination.now.some)) (omega (arith, count, c.args.combination.now.few))
-    (subst (λ (xs : List (ℕ × Dy)). HasPairsLine c.args.text.now.items c.args.rule (multipliers_of xs) c.append_multipliers.new.text.items) c.deref.ensures.value e))
+    (λ e. paired_appended c.args.word (multipliers_of pairs) _ _ (omega (arith, count, c.args.combination.now.some)) (omega (arith, count, c.args.combination.now.few))
+    (subst (λ (xs : List (ℕ × Dy)). HasPairsLine c.args.text.now.items c.args.word (multipliers_of xs) c.append_multipliers.new.text.items) c.deref.ensures.value e))
     c.append_multipliers.ensures
