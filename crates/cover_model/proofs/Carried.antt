@@ -1,19 +1,18 @@
 -- A lemma outlasts what is asked besides.
-use Rattle.std.proofs.Common.{◌≡◌, ℕ, suc, zero, ◌<◌, List, [], ◌∷◌, ◌++◌, map, length, Bool, true, false, ◌&&◌, ◌||◌, not, cond, IsTrue, refl, ap, ap₂, sym, ◌∙◌, subst, arith, true≢false, take, slice_index_or, replicate, ◌-◌, length-append}
-use Rattle.std.proofs.lemmas.List.{length-map}
+use Rattle.std.proofs.Common.{◌≡◌, ℕ, suc, zero, ◌<◌, List, [], ◌∷◌, ◌++◌, length, Bool, ◌&&◌, ◌||◌, not, IsTrue, refl, ap, ap₂, sym, ◌∙◌, subst, arith, true≢false, take, slice_index_or, replicate, length-append}
 use Rattle.dyadic.specs.Fraction.{zero_fraction, negated, sum_of, product_of}
 use Rattle.dyadic.specs.Point.{Sort, real_sort, bool_sort, Coordinate, at_fraction, at_bool, IsPoint}
 use Rattle.dyadic.specs.Rounding.{exact}
 use Rattle.dyadic.proofs.Equal.{both_true}
-use Rattle.interval_model.specs.Space.{Space, Domain, in_domain, in_space}
+use Rattle.interval_model.specs.Space.{Space, in_domain, in_space}
 use Rattle.poly_graph.specs.Form.{Form, Forms, yes_form, no_form, atom_is, bool_is, all_form, any_form, no_forms, more_forms, form_truth, all_truth, any_truth}
 use Rattle.poly_graph.specs.Marks.{Mark, unmarked, is_yes, is_no, mark_at}
 use Rattle.poly_graph.specs.Problem.{Problem, IsProblem, Axis, HasSort, IsTerm, IsForm, AreForms, sorts_of_axes, sorts_of_problem, atom_at, no_place, term_of, full_atom, bool_holds}
 use Rattle.poly_graph.specs.Term.{Term, constant, variable, negate, add, multiply, square, Kind, Atom, Node, node_term, terms_after, graph_terms, coordinate, term_value, in_range, atom_holds}
 use Rattle.poly_graph.proofs.Graphs.{term_at, terms_are, length_terms}
-use Rattle.cover_model.specs.State.{State, Loosenings, margin_of, in_yes, in_no, IsPointOf, MeetsForm, IsLemma}
+use Rattle.cover_model.specs.State.{State, Loosenings, margin_of, IsPointOf, MeetsForm, IsLemma}
 use Rattle.cover_model.specs.Fits.{FitsAxes, FitsProblem}
-use Rattle.cover_model.specs.Carried.{CarriedLemmaHolds, GoesOnFrom, carried, forms_then}
+use Rattle.cover_model.specs.Carried.{GoesOnFrom, carried, forms_then}
 
 -- ---- the first coordinates of a point
 

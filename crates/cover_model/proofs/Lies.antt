@@ -1,5 +1,5 @@
 -- What a rule leaves, and what stays of a lawful tree, lies within its state.
-use Rattle.std.proofs.Common.{◌≡◌, inl, inr, ℕ, suc, zero, List, [], ◌∷◌, ◌++◌, Bool, true, false, not, ◌&&◌, cond, IsTrue, Option, Some, None, refl, sym, subst, true≢false}
+use Rattle.std.proofs.Common.{◌≡◌, inl, inr, ℕ, suc, zero, List, [], ◌∷◌, ◌++◌, Bool, true, false, not, cond, IsTrue, Option, Some, None, refl, sym, subst, true≢false}
 use Rattle.dyadic.specs.Fraction.{at_most}
 use Rattle.dyadic.specs.Rounding.{Dyadic, exact}
 use Rattle.dyadic.proofs.Equal.{both_true, both_pass, total}
@@ -9,9 +9,9 @@ use Rattle.cover_model.specs.OffRange.{off_range}
 use Rattle.cover_model.specs.Space.{range}
 use Rattle.poly_graph.specs.Problem.{Problem, IsProblem, atom_at}
 use Rattle.poly_graph.specs.Marks.{Mark, marked_yes, marked_no, marks_within}
-use Rattle.cover_model.specs.State.{State, Loosenings, margin_of, in_yes, undecided, with_mark, with_yes, with_no, with_space, may, covers}
+use Rattle.cover_model.specs.State.{State, Loosenings, margin_of, undecided, with_mark, with_space, may, covers}
 use Rattle.cover_model.specs.Combination.{Multipliers, marked_range}
-use Rattle.cover_model.specs.Rules.{Line, Left, closed, one, two, stays, narrowing, narrowing_off, can_push, can_combine, combining, lemma_covers, with_changed, when, pulled, voided, is_stuck_atom, rule, narrow_by, by_range, by_off_range, by_combination, end_by, void_by, false_form, by_lemma, mark_by, unit_atom, ban_atom, branch_by, cut_axis, flip_axis, case_atom, stay_by, open_state, stuck_atom}
+use Rattle.cover_model.specs.Rules.{Line, narrow_by, end_by, mark_by, branch_by, stay_by, Narrowing, by_range, by_off_range, by_combination, Ending, void_by, false_form, by_lemma, Marking, unit_atom, ban_atom, Branching, cut_axis, flip_axis, case_atom, Left, closed, one, two, stays, narrowing, narrowing_off, combining, lemma_covers, can_narrow, narrowed_to, ending, can_mark, marked, can_branch, first_child, second_child, can_stay, when, pulled, voided, rule}
 use Rattle.cover_model.proofs.CombinationWithin.{combining_lies_within}
 use Rattle.cover_model.specs.Derivation.{Tree, Lawful, at_closed, at_left, at_step, at_fork, LiesWithin, LiesWithinIf, EachWithin}
 use Rattle.poly_graph.proofs.Marks
@@ -93,31 +93,38 @@ module _ (p : Problem) (g : IsProblem p) (s : Loosenings) where
   combining_within : (S : State) (ms : Multipliers) (space : Space) → combining p s S ms ≡ Some space → IsTrue (space_within space S.space)
   combining_within S ms space e = combining_lies_within p (marked_range p (margin_of s) S.marks) S.space (middle S.space) ms space e
 
+  pub narrowed_within : (S : State) (n : Narrowing) (space : Space) → narrowed_to p s S n ≡ Some space → IsTrue (space_within space S.space)
+  narrowed_within S (by_range j) space e = narrowing_within S j space e
+  narrowed_within S (by_off_range j) space e = narrowing_off_within S j space e
+  narrowed_within S (by_combination ms) space e = combining_within S ms space e
+
+  ending_within : (lemmas : List State) (S : State) (e : Ending) → LiesWithinIf S (ending p s lemmas S e)
+  ending_within lemmas S (void_by n) = by-cond (can_narrow p s S n) (voided (narrowed_to p s S n)) S (voided-within S (narrowed_to p s S n))
+  ending_within lemmas S false_form = by-when (not (may p s S)) closed S (λ e. tt)
+  ending_within lemmas S (by_lemma k) = by-when (lemma_covers lemmas k S) closed S (λ e. tt)
+
+  pub marked_within : (lemmas : List State) (S : State) (m : Marking) → IsTrue (can_mark p s lemmas S m) → IsTrue (covers S (marked S m))
+  marked_within lemmas S (unit_atom j) e = mark_step S j marked_yes (both_true (undecided S j) _ e).0
+  marked_within lemmas S (ban_atom j k) e = mark_step S j marked_no (both_true (undecided S j) _ e).0
+
+  pub parts_within : (S : State) (b : Branching) → IsTrue (can_branch S b) → LiesWithin S (two (first_child S b) (second_child S b))
+  parts_within S (cut_axis axis c) e = (
+    space_step S (changed (lower_part c) axis S.space) (changed-within (lower_part c) (strictly_inside c) (lower-within c) axis S.space e),
+    space_step S (changed (upper_part c) axis S.space) (changed-within (upper_part c) (strictly_inside c) (upper-within c) axis S.space e),
+  )
+  parts_within S (flip_axis axis) e = (
+    space_step S (changed (keep false) axis S.space) (changed-within (keep false) is_undecided (keep-within false) axis S.space e),
+    space_step S (changed (keep true) axis S.space) (changed-within (keep true) is_undecided (keep-within true) axis S.space e),
+  )
+  parts_within S (case_atom j) e = (mark_step S j marked_yes e, mark_step S j marked_no e)
+
   -- what a rule leaves lies within its state
   pub rule_within : (lemmas : List State) (S : State) (l : Line) → LiesWithinIf S (rule p s lemmas S l)
-  rule_within lemmas S (narrow_by (by_range j)) = by-cond (in_yes S j) (pulled S (narrowing p s S j)) S (pulled-within S (narrowing p s S j) (narrowing_within S j))
-  rule_within lemmas S (mark_by (unit_atom j)) = by-when (undecided S j && not (may p s (with_no S j))) (one (with_yes S j)) S (λ e. mark_step S j marked_yes (both_true (undecided S j) _ e).0)
-  rule_within lemmas S (mark_by (ban_atom j k)) = by-when (undecided S j && lemma_covers lemmas k (with_yes S j)) (one (with_no S j)) S (λ e. mark_step S j marked_no (both_true (undecided S j) _ e).0)
-  rule_within lemmas S (end_by (void_by (by_range j))) = by-cond (in_yes S j) (voided (narrowing p s S j)) S (voided-within S (narrowing p s S j))
-  rule_within lemmas S (narrow_by (by_off_range j)) = by-cond (can_push p s S j) (pulled S (narrowing_off p s S j)) S (pulled-within S (narrowing_off p s S j) (narrowing_off_within S j))
-  rule_within lemmas S (end_by (void_by (by_off_range j))) = by-cond (can_push p s S j) (voided (narrowing_off p s S j)) S (voided-within S (narrowing_off p s S j))
-  rule_within lemmas S (narrow_by (by_combination ms)) = by-cond (can_combine p s S ms) (pulled S (combining p s S ms)) S (pulled-within S (combining p s S ms) (combining_within S ms))
-  rule_within lemmas S (end_by (void_by (by_combination ms))) = by-cond (can_combine p s S ms) (voided (combining p s S ms)) S (voided-within S (combining p s S ms))
-  rule_within lemmas S (end_by false_form) = by-when (not (may p s S)) closed S (λ e. tt)
-  rule_within lemmas S (end_by (by_lemma k)) = by-when (lemma_covers lemmas k S) closed S (λ e. tt)
-  rule_within lemmas S (branch_by (cut_axis axis c)) = by-when (test_axis (strictly_inside c) axis S.space) (two (with_changed S (lower_part c) axis) (with_changed S (upper_part c) axis)) S
-      (λ e. (
-        space_step S (changed (lower_part c) axis S.space) (changed-within (lower_part c) (strictly_inside c) (lower-within c) axis S.space e),
-        space_step S (changed (upper_part c) axis S.space) (changed-within (upper_part c) (strictly_inside c) (upper-within c) axis S.space e),
-      ))
-  rule_within lemmas S (branch_by (flip_axis axis)) = by-when (test_axis is_undecided axis S.space) (two (with_changed S (keep false) axis) (with_changed S (keep true) axis)) S
-      (λ e. (
-        space_step S (changed (keep false) axis S.space) (changed-within (keep false) is_undecided (keep-within false) axis S.space e),
-        space_step S (changed (keep true) axis S.space) (changed-within (keep true) is_undecided (keep-within true) axis S.space e),
-      ))
-  rule_within lemmas S (branch_by (case_atom j)) = by-when (undecided S j) (two (with_yes S j) (with_no S j)) S (λ e. (mark_step S j marked_yes e, mark_step S j marked_no e))
-  rule_within lemmas S (stay_by open_state) = tt
-  rule_within lemmas S (stay_by (stuck_atom j)) = by-when (is_stuck_atom p s S j) stays S (λ e. tt)
+  rule_within lemmas S (narrow_by n) = by-cond (can_narrow p s S n) (pulled S (narrowed_to p s S n)) S (pulled-within S (narrowed_to p s S n) (narrowed_within S n))
+  rule_within lemmas S (end_by e) = ending_within lemmas S e
+  rule_within lemmas S (mark_by m) = by-when (can_mark p s lemmas S m) (one (marked S m)) S (marked_within lemmas S m)
+  rule_within lemmas S (branch_by b) = by-when (can_branch S b) (two (first_child S b) (second_child S b)) S (parts_within S b)
+  rule_within lemmas S (stay_by t) = by-when (can_stay p s S t) stays S (λ e. tt)
 
   -- ---- trees
 

@@ -1,6 +1,6 @@
 -- The laws, from their lemmas.
 use Rattle.dyadic.specs.Rounding.{two_to_minus}
-use Rattle.cover_model.specs.Laws.{EnclosureHolds, EnclosureIsIsotone, NarrowingKeeps, NarrowingLiesWithin, MayIsTrue, SureMeans, RuleKeeps, TreeKeeps, ClosedTreeHasNone, RuleLiesWithin, TreeLiesWithin, CoveredPoints, RootHasDeclaredBox, CrossedBoxIsEmpty}
+use Rattle.cover_model.specs.Laws.{EnclosureHolds, EnclosureIsIsotone, NarrowingKeeps, NarrowingLiesWithin, MayIsTrue, SureMeans, NarrowsSoundly, RuleKeeps, TreeKeeps, ClosedTreeHasNone, RuleLiesWithin, TreeLiesWithin, CoveredPoints, RootHasDeclaredBox, CrossedBoxIsEmpty}
 use Rattle.poly_graph.specs.Term.{term_value}
 use Rattle.cover_model.specs.Space.{range}
 use Rattle.poly_graph.specs.Problem.{sorts_of_problem, atom_at, term_of}
@@ -10,7 +10,7 @@ use Rattle.cover_model.proofs.Lies.{rule_within, tree_within}
 use Rattle.cover_model.proofs.May.{may_is, sure_means, range_holds, range_kept, two_to_minus_on_grid}
 use Rattle.cover_model.proofs.Narrows.{narrows}
 use Rattle.cover_model.proofs.Root.{root_has, crossed_is_empty}
-use Rattle.cover_model.proofs.Sound.{rule_keeps, tree_keeps, none_left, covered}
+use Rattle.cover_model.proofs.Sound.{narrows_soundly as keeps_points, rule_keeps, tree_keeps, none_left, covered}
 use Rattle.cover_model.proofs.Within.{narrowed_lies_within}
 
 pub enclosures_hold : EnclosureHolds
@@ -31,6 +31,9 @@ may_is_true p g s S point i h = may_is p g s S point i h
 
 pub sure_holds : SureMeans
 sure_holds p g space point q i bits h = sure_means p g (two_to_minus bits) space point q i h
+
+pub narrows_soundly : NarrowsSoundly
+narrows_soundly p g s S n point i e = keeps_points p s g S n point i e
 
 pub rules_keep : RuleKeeps
 rules_keep p g s lemmas f S l point i h = rule_keeps p s g lemmas f S l point i h

@@ -1,20 +1,19 @@
 -- Each rule of a cover keeps the points that meet the form, and so does each lawful tree.
-use Rattle.std.proofs.Common.{◌≡◌, ◌⊎◌, inl, inr, ℕ, suc, zero, List, [], ◌∷◌, ◌++◌, Bool, true, false, not, ◌&&◌, cond, IsTrue, Option, Some, None, refl, sym, subst, true≢false}
+use Rattle.std.proofs.Common.{◌≡◌, ◌⊎◌, inl, inr, ℕ, suc, zero, List, [], ◌∷◌, ◌++◌, Bool, true, false, not, cond, IsTrue, Option, Some, None, refl, sym, subst, true≢false}
 use Rattle.std.specs.Prelude.{slice_get}
 use Rattle.dyadic.specs.Fraction.{at_most}
 use Rattle.dyadic.specs.Point.{Coordinate, at_fraction, at_bool}
 use Rattle.dyadic.specs.Rounding.{Dyadic, exact}
 use Rattle.dyadic.proofs.Equal.{both_true, both_pass, total}
 use Rattle.poly_graph.specs.Term.{atom_holds, term_value}
-use Rattle.interval_model.specs.Space.{Domain, real_domain, bool_domain, Space, in_space, in_domain, space_within, strictly_inside, lower_part, upper_part, is_undecided, keep, changed, test_axis}
+use Rattle.interval_model.specs.Space.{Domain, real_domain, bool_domain, Space, in_space, in_domain, space_within, lower_part, upper_part, keep, changed}
 use Rattle.cover_model.specs.Space.{range}
 use Rattle.poly_graph.specs.Problem.{Problem, IsProblem, sorts_of_problem, atom_at, term_of, full_atom}
 use Rattle.poly_graph.specs.Marks.{Mark, marked_yes, marked_no, is_yes, is_no, marks_within}
-use Rattle.cover_model.specs.State.{State, Loosenings, margin_of, in_yes, in_no, undecided, with_yes, with_no, with_space, may, IsPointOf, MeetsForm, IsLemma, covers}
-use Rattle.cover_model.specs.Rules.{Line, Left, closed, one, two, stays, narrowing, narrowing_off, has_version_2, is_one_sided, in_no_one_sided, can_push, can_combine, combining, covers_by, lemma_covers, with_changed, when, pulled, voided, is_stuck_atom, rule, narrow_by, by_range, by_off_range, by_combination, end_by, void_by, false_form, by_lemma, mark_by, unit_atom, ban_atom, branch_by, cut_axis, flip_axis, case_atom, stay_by, open_state, stuck_atom}
+use Rattle.cover_model.specs.State.{State, Loosenings, margin_of, in_no, undecided, with_yes, with_no, with_space, may, IsPointOf, MeetsForm, IsLemma, covers}
+use Rattle.cover_model.specs.Rules.{Line, narrow_by, end_by, mark_by, branch_by, stay_by, Narrowing, by_range, by_off_range, by_combination, Ending, void_by, false_form, by_lemma, Marking, unit_atom, ban_atom, Branching, cut_axis, flip_axis, case_atom, Left, closed, one, two, stays, narrowing, narrowing_off, has_version_2, is_one_sided, in_no_one_sided, can_push, covers_by, lemma_covers, can_narrow, narrowed_to, ending, can_mark, marked, can_branch, first_child, second_child, can_stay, when, pulled, voided, rule}
 use Rattle.cover_model.specs.Derivation.{Tree, Lawful, at_closed, at_left, at_step, at_fork, Keeps, KeepsIf, Among, here, later, AreLemmas}
 use Rattle.poly_graph.proofs.Marks.{set_or_same, yes_within, no_within}
-use Rattle.cover_model.specs.Combination.{Multipliers}
 use Rattle.cover_model.proofs.CombinationMarked.{combined_point}
 use Rattle.cover_model.proofs.May.{may_is, range_holds, range_kept, margin_on_grid}
 use Rattle.cover_model.proofs.Narrows.{narrows}
@@ -136,12 +135,6 @@ module _ (p : Problem) (s : Loosenings) where
     narrowing_keeps S point i j h = narrows (sorts_of_problem p) p.nodes g.ordered g.nodes S.space point i.sorted i.inside (atom_at p j).0 (range (margin_of s) (atom_at p j).1) (range_kept (margin_of s) (margin_on_grid s) (atom_at p j).1)
         (range_holds (margin_of s) (atom_at p j).1 (term_value point (term_of p j)) h)
 
-    pull-keeps : (S : State) (point : List Coordinate) → IsPointOf p s S point → (j : ℕ) → IsTrue (in_yes S j) → KeepsIf p s (pulled S (narrowing p s S j)) S point
-    pull-keeps S point i j e = let n = narrowing_keeps S point i j (i.yes j e) in rw n.1 (with-space S point i n.0 n.2)
-
-    void-keeps : (S : State) (point : List Coordinate) → IsPointOf p s S point → (j : ℕ) → IsTrue (in_yes S j) → KeepsIf p s (voided (narrowing p s S j)) S point
-    void-keeps S point i j e = let n = narrowing_keeps S point i j (i.yes j e) in rw n.1 tt
-
     narrowing_off_keeps : (S : State) (point : List Coordinate) → IsPointOf p s S point → (j : ℕ) → IsTrue (not (atom_holds (exact (margin_of s)) point (full_atom p j))) →
         (space : Space) × (narrowing_off p s S j ≡ Some space) × IsTrue (in_space space point)
     narrowing_off_keeps S point i j h = narrows (sorts_of_problem p) p.nodes g.ordered g.nodes S.space point i.sorted i.inside (atom_at p j).0 (off_range (margin_of s) (atom_at p j).1) (off_range_kept (margin_of s) (margin_on_grid s) (atom_at p j).1)
@@ -150,39 +143,45 @@ module _ (p : Problem) (s : Loosenings) where
     can-be-no : (S : State) (j : ℕ) → IsTrue (can_push p s S j) → IsTrue (in_no S j)
     can-be-no S j e = (both_true (in_no S j) (is_one_sided (atom_at p j).1) (both_true (has_version_2 s) (in_no_one_sided p S j) e).1).0
 
-    push-keeps : (S : State) (point : List Coordinate) → IsPointOf p s S point → (j : ℕ) → IsTrue (can_push p s S j) → KeepsIf p s (pulled S (narrowing_off p s S j)) S point
-    push-keeps S point i j e = let n = narrowing_off_keeps S point i j (i.no j (can-be-no S j e)) in rw n.1 (with-space S point i n.0 n.2)
+    -- ---- shapes
 
-    void-no-keeps : (S : State) (point : List Coordinate) → IsPointOf p s S point → (j : ℕ) → IsTrue (can_push p s S j) → KeepsIf p s (voided (narrowing_off p s S j)) S point
-    void-no-keeps S point i j e = let n = narrowing_off_keeps S point i j (i.no j (can-be-no S j e)) in rw n.1 tt
+    -- what narrows a state keeps its points
+    pub narrows_soundly : (S : State) (n : Narrowing) (point : List Coordinate) → IsPointOf p s S point → IsTrue (can_narrow p s S n) →
+        (space : Space) × (narrowed_to p s S n ≡ Some space) × IsTrue (in_space space point)
+    narrows_soundly S (by_range j) point i e = narrowing_keeps S point i j (i.yes j e)
+    narrows_soundly S (by_off_range j) point i e = narrowing_off_keeps S point i j (i.no j (can-be-no S j e))
+    narrows_soundly S (by_combination ms) point i e = combined_point p s S point i g ms e
 
-    combine-keeps : (S : State) (point : List Coordinate) → IsPointOf p s S point → (ms : Multipliers) → IsTrue (can_combine p s S ms) → KeepsIf p s (pulled S (combining p s S ms)) S point
-    combine-keeps S point i ms e = let n = combined_point p s S point i g ms e in rw n.1 (with-space S point i n.0 n.2)
+    -- what closes a state leaves out none that meets the form
+    pub ends_soundly : (lemmas : List State) → AreLemmas p s lemmas → (S : State) (e : Ending) (point : List Coordinate) → IsPointOf p s S point → MeetsForm p s point → KeepsIf p s (ending p s lemmas S e) S point
+    ends_soundly lemmas f S (void_by n) point i h = by-cond (can_narrow p s S n) (can_narrow p s S n) (voided (narrowed_to p s S n)) S point refl
+        (λ e. let k = narrows_soundly S n point i e in rw k.1 tt)
+    ends_soundly lemmas f S false_form point i h = by-when (not (may p s S)) closed S point (λ e. not_both (may p s S) (may_is p g s S point i h) e)
+    ends_soundly lemmas f S (by_lemma k) point i h = by-when (lemma_covers lemmas k S) closed S point (λ e. no-point lemmas f k S point e i h)
 
-    void-combine-keeps : (S : State) (point : List Coordinate) → IsPointOf p s S point → (ms : Multipliers) → IsTrue (can_combine p s S ms) → KeepsIf p s (voided (combining p s S ms)) S point
-    void-combine-keeps S point i ms e = let n = combined_point p s S point i g ms e in rw n.1 tt
+    -- what marks an atom keeps those that meet the form
+    pub marks_soundly : (lemmas : List State) → AreLemmas p s lemmas → (S : State) (m : Marking) (point : List Coordinate) → IsPointOf p s S point → MeetsForm p s point → IsTrue (can_mark p s lemmas S m) → IsPointOf p s (marked S m) point
+    marks_soundly lemmas f S (unit_atom j) point i h e =
+        elim (atom_split S point i j) [ inl k ↦ k | inr k ↦ absurd (not_both (may p s (with_no S j)) (may_is p g s (with_no S j) point k h) (both_true (undecided S j) _ e).1) ]
+    marks_soundly lemmas f S (ban_atom j k) point i h e =
+        elim (atom_split S point i j) [ inl a ↦ absurd (no-point lemmas f k (with_yes S j) point (both_true (undecided S j) _ e).1 a h) | inr a ↦ a ]
+
+    -- each point of a state is one of a part
+    pub parts_soundly : (S : State) (b : Branching) (point : List Coordinate) → IsPointOf p s S point → IsPointOf p s (first_child S b) point ⊎ IsPointOf p s (second_child S b) point
+    parts_soundly S (cut_axis axis c) point i =
+        elim (space-parts (lower_part c) (upper_part c) (part-cut c) axis S.space point i.inside) [ inl k ↦ inl (with-space S point i _ k) | inr k ↦ inr (with-space S point i _ k) ]
+    parts_soundly S (flip_axis axis) point i =
+        elim (space-parts (keep false) (keep true) part-flip axis S.space point i.inside) [ inl k ↦ inl (with-space S point i _ k) | inr k ↦ inr (with-space S point i _ k) ]
+    parts_soundly S (case_atom j) point i = atom_split S point i j
 
     -- a point of the state that meets the form is a point of some state that the rule leaves
     pub rule_keeps : (lemmas : List State) → AreLemmas p s lemmas → (S : State) (l : Line) → (point : List Coordinate) → IsPointOf p s S point → MeetsForm p s point → KeepsIf p s (rule p s lemmas S l) S point
-    rule_keeps lemmas f S (narrow_by (by_range j)) point i h = by-cond (in_yes S j) (in_yes S j) (pulled S (narrowing p s S j)) S point refl (pull-keeps S point i j)
-    rule_keeps lemmas f S (mark_by (unit_atom j)) point i h = by-when (undecided S j && not (may p s (with_no S j))) (one (with_yes S j)) S point
-        (λ e. elim (atom_split S point i j) [ inl k ↦ k | inr k ↦ absurd (not_both (may p s (with_no S j)) (may_is p g s (with_no S j) point k h) (both_true (undecided S j) _ e).1) ])
-    rule_keeps lemmas f S (mark_by (ban_atom j k)) point i h = by-when (undecided S j && lemma_covers lemmas k (with_yes S j)) (one (with_no S j)) S point
-        (λ e. elim (atom_split S point i j) [ inl a ↦ absurd (no-point lemmas f k (with_yes S j) point (both_true (undecided S j) _ e).1 a h) | inr a ↦ a ])
-    rule_keeps lemmas f S (end_by (void_by (by_range j))) point i h = by-cond (in_yes S j) (in_yes S j) (voided (narrowing p s S j)) S point refl (void-keeps S point i j)
-    rule_keeps lemmas f S (narrow_by (by_off_range j)) point i h = by-cond (can_push p s S j) (can_push p s S j) (pulled S (narrowing_off p s S j)) S point refl (push-keeps S point i j)
-    rule_keeps lemmas f S (end_by (void_by (by_off_range j))) point i h = by-cond (can_push p s S j) (can_push p s S j) (voided (narrowing_off p s S j)) S point refl (void-no-keeps S point i j)
-    rule_keeps lemmas f S (narrow_by (by_combination ms)) point i h = by-cond (can_combine p s S ms) (can_combine p s S ms) (pulled S (combining p s S ms)) S point refl (combine-keeps S point i ms)
-    rule_keeps lemmas f S (end_by (void_by (by_combination ms))) point i h = by-cond (can_combine p s S ms) (can_combine p s S ms) (voided (combining p s S ms)) S point refl (void-combine-keeps S point i ms)
-    rule_keeps lemmas f S (end_by false_form) point i h = by-when (not (may p s S)) closed S point (λ e. not_both (may p s S) (may_is p g s S point i h) e)
-    rule_keeps lemmas f S (end_by (by_lemma k)) point i h = by-when (lemma_covers lemmas k S) closed S point (λ e. no-point lemmas f k S point e i h)
-    rule_keeps lemmas f S (branch_by (cut_axis axis c)) point i h = by-when (test_axis (strictly_inside c) axis S.space) (two (with_changed S (lower_part c) axis) (with_changed S (upper_part c) axis)) S point
-        (λ e. elim (space-parts (lower_part c) (upper_part c) (part-cut c) axis S.space point i.inside) [ inl k ↦ inl (with-space S point i _ k) | inr k ↦ inr (with-space S point i _ k) ])
-    rule_keeps lemmas f S (branch_by (flip_axis axis)) point i h = by-when (test_axis is_undecided axis S.space) (two (with_changed S (keep false) axis) (with_changed S (keep true) axis)) S point
-        (λ e. elim (space-parts (keep false) (keep true) part-flip axis S.space point i.inside) [ inl k ↦ inl (with-space S point i _ k) | inr k ↦ inr (with-space S point i _ k) ])
-    rule_keeps lemmas f S (branch_by (case_atom j)) point i h = by-when (undecided S j) (two (with_yes S j) (with_no S j)) S point (λ e. atom_split S point i j)
-    rule_keeps lemmas f S (stay_by open_state) point i h = tt
-    rule_keeps lemmas f S (stay_by (stuck_atom j)) point i h = by-when (is_stuck_atom p s S j) stays S point (λ e. tt)
+    rule_keeps lemmas f S (narrow_by n) point i h = by-cond (can_narrow p s S n) (can_narrow p s S n) (pulled S (narrowed_to p s S n)) S point refl
+        (λ e. let k = narrows_soundly S n point i e in rw k.1 (with-space S point i k.0 k.2))
+    rule_keeps lemmas f S (end_by e) point i h = ends_soundly lemmas f S e point i h
+    rule_keeps lemmas f S (mark_by m) point i h = by-when (can_mark p s lemmas S m) (one (marked S m)) S point (λ e. marks_soundly lemmas f S m point i h e)
+    rule_keeps lemmas f S (branch_by b) point i h = by-when (can_branch S b) (two (first_child S b) (second_child S b)) S point (λ e. parts_soundly S b point i)
+    rule_keeps lemmas f S (stay_by t) point i h = by-when (can_stay p s S t) stays S point (λ e. tt)
 
     -- a whole tree: each point of its state that meets the form is one of a state that stays
     pub tree_keeps : (lemmas : List State) → AreLemmas p s lemmas → {S : State} {t : Tree} {rest : List State} → Lawful p s lemmas S t rest →

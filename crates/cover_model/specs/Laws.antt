@@ -14,7 +14,7 @@ use Rattle.cover_model.specs.Fits.{IsShownAt, coordinates}
 use Rattle.cover_model.specs.Narrowed.{narrowed_by}
 use Rattle.cover_model.specs.OffRange.{off_range}
 use Rattle.cover_model.specs.Combination.{Multipliers, combined_about, completed, completed_left}
-use Rattle.cover_model.specs.Rules.{Line, rule, is_stuck_atom}
+use Rattle.cover_model.specs.Rules.{Line, Narrowing, can_narrow, narrowed_to, rule, is_stuck_atom}
 use Rattle.cover_model.specs.Honest.{not_shown, is_small, none_below}
 use Rattle.cover_model.specs.Derivation.{Tree, Lawful, KeepsIf, LiesWithinIf, EachWithin, Among, AreLemmas}
 
@@ -57,6 +57,11 @@ SureMeans = (p : Problem) → IsProblem p → (space : Space) (point : List Coor
 abbrev pub ShownPointMeets : Type 0
 ShownPointMeets = (p : Problem) → IsProblem p → (s : Loosenings) (space : Space) → IsShownAt p s space →
     IsPoint (sorts_of_problem p) (coordinates space) × MeetsAt p (delta_of s) (coordinates space)
+
+-- A point of a state, where narrowing by it is lawful, is one of the space that the narrowing leaves.
+abbrev pub NarrowsSoundly : Type 0
+NarrowsSoundly = (p : Problem) → IsProblem p → (s : Loosenings) (S : State) (n : Narrowing) (point : List Coordinate) → IsPointOf p s S point → IsTrue (can_narrow p s S n) →
+    (space : Space) × (narrowed_to p s S n ≡ Some space) × IsTrue (in_space space point)
 
 -- A point of a state that meets the form is a point of some state that a rule leaves.
 abbrev pub RuleKeeps : Type 0

@@ -1,6 +1,6 @@
 //! What is proved of the definitions: each function here does nothing, and its contract is a law.
 
-ghost use Rattle.cover_model.specs.Laws.{EnclosureHolds, EnclosureIsIsotone, NarrowingKeeps, NarrowingOffKeeps, NarrowingLiesWithin, MayIsTrue, SureMeans, ShownPointMeets, RuleKeeps, TreeKeeps, ClosedTreeHasNone, RuleLiesWithin, TreeLiesWithin, CoveredPoints, RootHasDeclaredBox, CrossedBoxIsEmpty, MiddleLiesWithin, RootIsUpright, SomeAtomIsStuck, CombiningKeeps, CombiningLiesWithin, SquaresAreCompleted};
+ghost use Rattle.cover_model.specs.Laws.{EnclosureHolds, EnclosureIsIsotone, NarrowingKeeps, NarrowingOffKeeps, NarrowingLiesWithin, MayIsTrue, SureMeans, ShownPointMeets, NarrowsSoundly, RuleKeeps, TreeKeeps, ClosedTreeHasNone, RuleLiesWithin, TreeLiesWithin, CoveredPoints, RootHasDeclaredBox, CrossedBoxIsEmpty, MiddleLiesWithin, RootIsUpright, SomeAtomIsStuck, CombiningKeeps, CombiningLiesWithin, SquaresAreCompleted};
 ghost use Rattle.cover_model.specs.Carried.{CarriedLemmaHolds};
 ghost use Rattle.cover_model.specs.CombinationLists.{ListsAreSwept};
 
@@ -43,6 +43,11 @@ pub fn sure_holds()
 /// A point that is shown meets the form at delta.
 pub fn shown_points_meet()
     ensures { ShownPointMeets }
+{}
+
+/// A point of a state, where narrowing by it is lawful, is one of the space that the narrowing leaves.
+pub fn narrows_soundly()
+    ensures { NarrowsSoundly }
 {}
 
 /// A point of a state that meets the form is a point of some state that a rule leaves.
