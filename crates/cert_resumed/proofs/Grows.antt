@@ -2,9 +2,10 @@
 use Rattle.std.proofs.Common.{◌≡◌, ℕ, zero, suc, List, [], ◌∷◌, ◌++◌, Bool, true, false, ◌&&◌, cond, Option, Some, None, IsTrue, true≢false, refl, ap, ap₂, sym, ◌∙◌, subst}
 use Rattle.poly_graph.specs.Problem.{Problem}
 use Rattle.cover_model.specs.State.{State, Loosenings, undecided, with_yes}
-use Rattle.cover_model.specs.Rules.{Line, narrow_by, end_by, mark_by, branch_by, stay_by, Narrowing, by_range, by_off_range, by_combination, void_by, false_form, by_lemma, Marking, unit_atom, ban_atom, open_state, stuck_atom, unit, ban, make_false, by, open_line, stuck, Left, closed, one, two, stays, rule, when, pulled, voided, can_narrow, narrowed_to, can_mark, marked, lemma_covers, has_version_2, in_no_one_sided, is_combination, are_combinable}
+use Rattle.cover_model.specs.Rules.{Line, narrow_by, end_by, mark_by, branch_by, stay_by, void_by, false_form, by_lemma, Marking, unit_atom, ban_atom, open_state, stuck_atom, unit, ban, make_false, by, open_line, stuck, Left, closed, one, two, stays, rule, when, pulled, voided, can_narrow, narrowed_to, can_mark, marked, lemma_covers}
 use Rattle.cover_model.specs.Derivation.{Tree, Lawful, at_closed, at_left, at_step, at_fork}
 use Rattle.cert_model.specs.Due.{Standing}
+use Rattle.cert_model.proofs.Narrowings.{can_narrow_in, narrowed_in}
 use Rattle.cert_model.specs.Written.{leaf_standing, step_standing, fork_standing, left_standing, tree_standing}
 use Rattle.cert_resumed.specs.Resumed.{in_version_2}
 
@@ -20,18 +21,8 @@ same-left (Some x) = refl
 along : (o u : Option Left) → SameIfSome o u → (x : Left) → o ≡ Some x → u ≡ Some x
 along o u h x e = subst (λ (w : Option Left). SameIfSome w u) e h
 
--- ---- version 2
-
-version-holds : (t u : Bool) → IsTrue (t && u) → IsTrue (true && u)
-version-holds true u h = h
-version-holds false u h = absurd (true≢false (sym h))
-
-version-holds-of-both : (t u w : Bool) → IsTrue (t && u && w) → IsTrue (true && u && w)
-version-holds-of-both true u w h = h
-version-holds-of-both false u w h = absurd (true≢false (sym h))
-
-cond-more : (t u : Bool) (o w : Option Left) → (IsTrue t → IsTrue u) → o ≡ w → SameIfSome (cond t o None) (cond u w None)
-cond-more true u o w h e = subst (λ (x : Option Left). SameIfSome o x) (e ∙ ap (λ (b : Bool). cond b w None) (sym (h refl))) (same-left o)
+cond-more : (t u : Bool) (o w : Option Left) → (IsTrue t → IsTrue u) → w ≡ o → SameIfSome (cond t o None) (cond u w None)
+cond-more true u o w h e = subst (λ (x : Option Left). SameIfSome o x) (sym e ∙ ap (λ (b : Bool). cond b w None) (sym (h refl))) (same-left o)
 cond-more false u o w h e = tt
 
 -- ---- more lemmas
@@ -50,22 +41,11 @@ both-more true t u h k = h k
 both-more false t u h k = absurd (true≢false (sym k))
 
 module _ (p : Problem) (s : Loosenings) where
-  -- what narrows under the version narrows so under version 2
-  narrows-still : (S : State) (n : Narrowing) → IsTrue (can_narrow p s S n) → IsTrue (can_narrow p (in_version_2 s) S n)
-  narrows-still S (by_range j) h = h
-  narrows-still S (by_off_range j) h = version-holds (has_version_2 s) (in_no_one_sided p S j) h
-  narrows-still S (by_combination ms) h = version-holds-of-both (has_version_2 s) (is_combination ms) (are_combinable p S ms) h
-
-  narrows-same : (S : State) (n : Narrowing) → narrowed_to p s S n ≡ narrowed_to p (in_version_2 s) S n
-  narrows-same S (by_range j) = refl
-  narrows-same S (by_off_range j) = refl
-  narrows-same S (by_combination ms) = refl
-
   version-same : (lemmas : List State) (S : State) (l : Line) → SameIfSome (rule p s lemmas S l) (rule p (in_version_2 s) lemmas S l)
-  version-same lemmas S (narrow_by n) = cond-more (can_narrow p s S n) (can_narrow p (in_version_2 s) S n)
-      (pulled S (narrowed_to p s S n)) (pulled S (narrowed_to p (in_version_2 s) S n)) (narrows-still S n) (ap (pulled S) (narrows-same S n))
-  version-same lemmas S (end_by (void_by n)) = cond-more (can_narrow p s S n) (can_narrow p (in_version_2 s) S n)
-      (voided (narrowed_to p s S n)) (voided (narrowed_to p (in_version_2 s) S n)) (narrows-still S n) (ap voided (narrows-same S n))
+  version-same lemmas S (narrow_by n) = cond-more (can_narrow p s S n) (can_narrow p (in_version_2 s) S n) (pulled S (narrowed_to p s S n)) (pulled S (narrowed_to p (in_version_2 s) S n))
+      (can_narrow_in p s 2 S n (λ h. refl)) (ap (pulled S) (narrowed_in p s 2 S n))
+  version-same lemmas S (end_by (void_by n)) = cond-more (can_narrow p s S n) (can_narrow p (in_version_2 s) S n) (voided (narrowed_to p s S n)) (voided (narrowed_to p (in_version_2 s) S n))
+      (can_narrow_in p s 2 S n (λ h. refl)) (ap voided (narrowed_in p s 2 S n))
   version-same lemmas S (end_by false_form) = same-left (rule p s lemmas S make_false)
   version-same lemmas S (end_by (by_lemma i)) = same-left (rule p s lemmas S (by i))
   version-same lemmas S (mark_by (unit_atom j)) = same-left (rule p s lemmas S (unit j))
