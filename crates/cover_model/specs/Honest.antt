@@ -7,7 +7,7 @@ use Rattle.interval_model.specs.Space.{Domain, real_domain, bool_domain, Space, 
 use Rattle.poly_graph.specs.Problem.{Problem}
 use Rattle.poly_graph.specs.Marks.{Mark, is_yes}
 use Rattle.cover_model.specs.State.{State, Loosenings, margin_of, in_yes, with_no, may, sure, misses}
-use Rattle.cover_model.specs.Rules.{Line, narrowing, is_stuck_atom, branch_by, cut_axis, flip_axis, case_atom, stay_by, open_state, stuck_atom}
+use Rattle.cover_model.specs.Rules.{Line, has_version_5, narrowing, is_stuck_atom, branch_by, cut_axis, flip_axis, case_atom, stay_by, open_state, stuck_atom}
 
 -- ---- a state to which nothing more can be done without a branch
 
