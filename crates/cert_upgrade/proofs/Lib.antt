@@ -1,3 +1,4 @@
 pub mod Breaks
 pub mod Raised
+pub mod SessionRaised
 pub mod Upgrades

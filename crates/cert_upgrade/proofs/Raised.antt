@@ -41,7 +41,7 @@ IsPast version_due = ⊥
 IsPast d = Unit {0}
 
 -- where the one goes on, so does the other
-abbrev Raises : Next → Next → Type 0
+abbrev pub Raises : Next → Next → Type 0
 Raises (faulty f) y = Unit {0}
 Raises (on d) y = (y ≡ on (raised d)) × IsPast d
 
@@ -161,7 +161,7 @@ module _ (p : Problem) (s : Loosenings) (earlier : IsEarlier s.version) where
   coordinate-line _ axes space _ = tt
 
 module _ (p : Problem) (b : Option ℕ) where
-  next-raises : (d : Due) (l : CertLine) → IsPast d → FitsDue IsEarlier d → Raises (next p b d l) (next p b (raised d) l)
+  pub next-raises : (d : Due) (l : CertLine) → IsPast d → FitsDue IsEarlier d → Raises (next p b d l) (next p b (raised d) l)
   next-raises version_due l past f = absurd past
   next-raises (margin_due v) (margin m) past f = (refl, tt)
   next-raises (margin_due v) _ past f = tt
@@ -244,3 +244,8 @@ module _ (p : Problem) (b : Option ℕ) where
   pub lines_raise : (ls : List (List ℕ)) → RaisesVerdict (ended (course p b 0 version_due ls)) (ended (course p b 0 version_due (newest_line ∷ behind_first ls)))
   lines_raise [] = tt
   lines_raise (l ∷ ls) = first-raises (parsed l) ls
+
+  -- a certificate that is too long is refused
+  pub cut_raises : (c : Course) (y : Verdict) → RaisesVerdict (cut_off c) y
+  cut_raises (stopped f n) y = tt
+  cut_raises (reached d n) y = tt
