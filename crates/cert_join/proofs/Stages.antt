@@ -6,7 +6,7 @@ use Rattle.std.proofs.lemmas.Bool.Decides.{eqb_tells}
 use Rattle.std.proofs.lemmas.Fmt.{length-decimal-le}
 use Rattle.std.proofs.lemmas.List.{length-map}
 use Rattle.std.proofs.lemmas.Option.{slice_get_within}
-use Rattle.cover_model.specs.Rules.{Line, ban, by, narrow_by, end_by, void_by, false_form, by_lemma, mark_by, unit_atom, ban_atom, branch_by, stay_by}
+use Rattle.cover_model.specs.Rules.{Line, ban, narrow_by, end_by, void_by, false_form, by_lemma, mark_by, unit_atom, ban_atom, branch_by, stay_by}
 use Rattle.cover_model.specs.Derivation.{Tree, tree_lines}
 use Rattle.cert_read.specs.CertLine.{CertLine, cover, tree_word, end_word, rule_line}
 use Rattle.cert_read.specs.LineText.{IsSpelled, line_text, text_of_lines}
