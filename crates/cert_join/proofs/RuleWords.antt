@@ -1,6 +1,6 @@
 -- The first word of a line of a tree, and the number of its lemma.
 use Rattle.std.proofs.Common.{◌≡◌, ◌<◌, ◌≤◌, ◌^◌, ℕ, inl, inr, List, [], ◌∷◌, ◌++◌, true, false, not, ◌||◌, nat_eq, IsTrue, Option, Some, None, codes, cond, refl, ap, ap₂, sym, ◌∙◌, length, get_or, subst, ⊎_elim, append_assoc, arith}
-use Rattle.std.specs.Prelude.{decimal, slice_get, IfSome, Ok}
+use Rattle.std.specs.Prelude.{Bool, decimal, is_some, slice_get, IfSome, Ok}
 use Rattle.std.specs.Str.{bytes_eq, all_ascii_digits}
 use Rattle.std.specs.Str.Parse.{digits_value}
 use Rattle.std.proofs.lemmas.Bool.{cases_lt}
@@ -8,14 +8,15 @@ use Rattle.std.proofs.lemmas.Bool.Decides.{eqb_tells}
 use Rattle.std.proofs.lemmas.Option.{slice_get_within, get_or_from_slice_get, slice_get-get_or}
 use Rattle.std.proofs.lemmas.Fmt.{digits_decimal}
 use Rattle.std.proofs.lemmas.Str.Parse.{IsNumeralModel, tells_all_ascii_digits, numerals_by_value}
-use Rattle.cover_line.specs.Words.{RuleWord, empty_word, pull_word, unit_word, ban_word, void_word, push_word, void_no_word, false_word, by_word, cut_word, flip_word, case_word, open_word, stuck_word, combine_word, void_combine_word, word_of, word_text}
-use Rattle.cover_model.specs.Rules.{Line, ban, by, narrow_by, by_range, by_off_range, by_combination, end_by, void_by, false_form, by_lemma, mark_by, unit_atom, ban_atom, branch_by, cut_axis, flip_axis, case_atom, stay_by, open_state, stuck_atom}
+use Rattle.cover_line.specs.Words.{RuleWord, empty_word, pull_word, unit_word, ban_word, void_word, push_word, void_no_word, false_word, by_word, cut_word, flip_word, case_word, open_word, stuck_word, combine_word, void_combine_word, narrowing_word, voiding_word, word_of, word_text}
+use Rattle.cover_model.specs.Rules.{Line, ban, by, narrow_by, Narrowing, by_range, by_off_range, by_combination, end_by, void_by, false_form, by_lemma, mark_by, unit_atom, ban_atom, branch_by, cut_axis, flip_axis, case_atom, stay_by, open_state, stuck_atom}
 use Rattle.cert_read.specs.CertLine.{CertLine, version, margin, delta, bound, lower, goal, over, checks, cover, keep, point_word, tree_word, end_word, lemma, real_interval, real_value, bool_value, yes_list, no_list, rule_line, crossing}
 use Rattle.cert_read.specs.LineText.{IsSpelled, spaced, line_words, line_text}
 use Rattle.cert_read.specs.Lines.{words_of}
 use Rattle.cert_read.proofs.Pieces.{lacks}
 use Rattle.cert_joined.specs.Covers.{line_by, numbered}
-use Rattle.cert_join.specs.Kinds.{rule_text, lemma_front, lemma_named, does_name, lemma_named_in, names_by_word, number_among, renumbered, IsRenumbered}
+use Rattle.cert_join.specs.declared.line.Left.TheVariants.{Nothing, One, Open}
+use Rattle.cert_join.specs.Kinds.{kind_of_word, left_kind, rule_text, lemma_front, lemma_named, does_name, lemma_named_in, number_among, renumbered, IsRenumbered}
 use Rattle.cert_join.proofs.Spaced.{both_pass, split_spaced}
 
 -- ---- the first word
@@ -125,7 +126,12 @@ first_of_rule r = first_of_line (rule_line r)
 
 -- ---- whether it names a lemma
 
-pub names_by_text : (v : RuleWord) → (bytes_eq (word_text v) (word_text by_word) || bytes_eq (word_text v) (word_text ban_word)) ≡ names_by_word v
+abbrev names_by_word : RuleWord → Bool
+names_by_word by_word = true
+names_by_word ban_word = true
+names_by_word w = false
+
+names_by_text : (v : RuleWord) → (bytes_eq (word_text v) (word_text by_word) || bytes_eq (word_text v) (word_text ban_word)) ≡ names_by_word v
 names_by_text empty_word = refl
 names_by_text pull_word = refl
 names_by_text unit_word = refl
@@ -170,23 +176,66 @@ decoded-text void_combine_word = refl
 pub same_word : (v w : RuleWord) → word_text v ≡ word_text w → v ≡ w
 same_word v w e = sym (decoded-text v) ∙ ap (λ (t : List ℕ). decoded t) e ∙ decoded-text w
 
+-- what a narrowing's word tells, and the word of a box that it empties
+narrowing-leaves : (n : Narrowing) → kind_of_word (narrowing_word n) ≡ One
+narrowing-leaves (by_range j) = refl
+narrowing-leaves (by_off_range j) = refl
+narrowing-leaves (by_combination ms) = refl
+
+voiding-leaves : (n : Narrowing) → kind_of_word (voiding_word n) ≡ Nothing
+voiding-leaves (by_range j) = refl
+voiding-leaves (by_off_range j) = refl
+voiding-leaves (by_combination ms) = refl
+
+-- the first word of a line tells what the line leaves
+pub word_leaves : (r : Line) → kind_of_word (word_of r) ≡ left_kind r
+word_leaves (narrow_by n) = narrowing-leaves n
+word_leaves (end_by (void_by n)) = voiding-leaves n
+word_leaves (end_by false_form) = refl
+word_leaves (end_by (by_lemma i)) = refl
+word_leaves (mark_by (unit_atom j)) = refl
+word_leaves (mark_by (ban_atom j i)) = refl
+word_leaves (branch_by (cut_axis axis c)) = refl
+word_leaves (branch_by (flip_axis axis)) = refl
+word_leaves (branch_by (case_atom j)) = refl
+word_leaves (stay_by open_state) = refl
+word_leaves (stay_by (stuck_atom j)) = refl
+
+open-text : (r : Line) → left_kind r ≡ Open → rule_text r ≡ word_text open_word
+open-text (narrow_by n) e = absurd (cc)
+open-text (end_by k) e = absurd (cc)
+open-text (mark_by m) e = absurd (cc)
+open-text (branch_by b) e = absurd (cc)
+open-text (stay_by open_state) e = refl
+open-text (stay_by (stuck_atom j)) e = absurd (cc)
+
 -- a line that leaves its state open is that word alone
 pub open_alone : (r : Line) → open_word ≡ word_of r → rule_text r ≡ word_text open_word
-open_alone (narrow_by (by_range j)) e = absurd (cc)
-open_alone (mark_by (unit_atom j)) e = absurd (cc)
-open_alone (end_by (void_by (by_range j))) e = absurd (cc)
-open_alone (narrow_by (by_off_range j)) e = absurd (cc)
-open_alone (end_by (void_by (by_off_range j))) e = absurd (cc)
-open_alone (narrow_by (by_combination ms)) e = absurd (cc)
-open_alone (end_by (void_by (by_combination ms))) e = absurd (cc)
-open_alone (mark_by (ban_atom j i)) e = absurd (cc)
-open_alone (end_by false_form) e = absurd (cc)
-open_alone (end_by (by_lemma i)) e = absurd (cc)
-open_alone (branch_by (cut_axis axis c)) e = absurd (cc)
-open_alone (branch_by (flip_axis axis)) e = absurd (cc)
-open_alone (branch_by (case_atom j)) e = absurd (cc)
-open_alone (stay_by open_state) e = refl
-open_alone (stay_by (stuck_atom j)) e = absurd (cc)
+open_alone r e = open-text r (sym (word_leaves r) ∙ ap kind_of_word (sym e))
+
+names-narrowing : (n : Narrowing) → names_by_word (narrowing_word n) ≡ false
+names-narrowing (by_range j) = refl
+names-narrowing (by_off_range j) = refl
+names-narrowing (by_combination ms) = refl
+
+names-voiding : (n : Narrowing) → names_by_word (voiding_word n) ≡ false
+names-voiding (by_range j) = refl
+names-voiding (by_off_range j) = refl
+names-voiding (by_combination ms) = refl
+
+-- the first word of a line tells whether the line names a lemma
+names-word : (r : Line) → names_by_word (word_of r) ≡ does_name (rule_line r)
+names-word (narrow_by n) = names-narrowing n
+names-word (end_by (void_by n)) = names-voiding n
+names-word (end_by false_form) = refl
+names-word (end_by (by_lemma i)) = refl
+names-word (mark_by (unit_atom j)) = refl
+names-word (mark_by (ban_atom j i)) = refl
+names-word (branch_by (cut_axis axis c)) = refl
+names-word (branch_by (flip_axis axis)) = refl
+names-word (branch_by (case_atom j)) = refl
+names-word (stay_by open_state) = refl
+names-word (stay_by (stuck_atom j)) = refl
 
 pub names_first : (l : CertLine) → (bytes_eq (first_of l) (word_text by_word) || bytes_eq (first_of l) (word_text ban_word)) ≡ does_name l
 names_first (version n) = refl
@@ -207,7 +256,7 @@ names_first (real_value v) = refl
 names_first (bool_value w) = refl
 names_first (yes_list js) = refl
 names_first (no_list js) = refl
-names_first (rule_line l) = names_by_text (word_of l)
+names_first (rule_line l) = names_by_text (word_of l) ∙ names-word l
 names_first over = refl
 names_first (crossing i) = refl
 
@@ -217,65 +266,53 @@ names_from l text w ws e h t u f g =
     ap (λ (x : List ℕ). bytes_eq x t || bytes_eq x u) (first_of_line l text w ws e h)
     ∙ ap₂ (λ (y z : List ℕ). bytes_eq (first_of l) y || bytes_eq (first_of l) z) f g ∙ names_first l
 
--- a line whose word names none names none
-pub names_none : (r : Line) → names_by_word (word_of r) ≡ false → (f : ℕ → ℕ) → (lemma_named r ≡ None) × (line_by f r ≡ r)
-names_none (narrow_by (by_range j)) h f = (refl, refl)
-names_none (mark_by (unit_atom j)) h f = (refl, refl)
-names_none (end_by (void_by (by_range j))) h f = (refl, refl)
-names_none (narrow_by (by_off_range j)) h f = (refl, refl)
-names_none (end_by (void_by (by_off_range j))) h f = (refl, refl)
-names_none (narrow_by (by_combination ms)) h f = (refl, refl)
-names_none (end_by (void_by (by_combination ms))) h f = (refl, refl)
-names_none (mark_by (ban_atom j i)) h f = absurd (cc)
-names_none (end_by false_form) h f = (refl, refl)
-names_none (end_by (by_lemma i)) h f = absurd (cc)
-names_none (branch_by (cut_axis axis c)) h f = (refl, refl)
-names_none (branch_by (flip_axis axis)) h f = (refl, refl)
-names_none (branch_by (case_atom j)) h f = (refl, refl)
-names_none (stay_by open_state) h f = (refl, refl)
-names_none (stay_by (stuck_atom j)) h f = (refl, refl)
+-- a line that names no lemma is the same with other numbers
+same-without : (f : ℕ → ℕ) (r : Line) → lemma_named r ≡ None → line_by f r ≡ r
+same-without f (narrow_by n) h = refl
+same-without f (end_by (void_by n)) h = refl
+same-without f (end_by false_form) h = refl
+same-without f (end_by (by_lemma i)) h = absurd (cc)
+same-without f (mark_by (unit_atom j)) h = refl
+same-without f (mark_by (ban_atom j i)) h = absurd (cc)
+same-without f (branch_by b) h = refl
+same-without f (stay_by t) h = refl
+
+same-unnamed : (f : ℕ → ℕ) (l : CertLine) → lemma_named_in l ≡ None → renumbered f l ≡ l
+same-unnamed f (version n) h = refl
+same-unnamed f (margin m) h = refl
+same-unnamed f (delta d) h = refl
+same-unnamed f (bound b) h = refl
+same-unnamed f (lower d) h = refl
+same-unnamed f (goal n) h = refl
+same-unnamed f (checks n) h = refl
+same-unnamed f (cover k) h = refl
+same-unnamed f (keep q) h = refl
+same-unnamed f point_word h = refl
+same-unnamed f tree_word h = refl
+same-unnamed f end_word h = refl
+same-unnamed f (lemma i) h = refl
+same-unnamed f (real_interval l u) h = refl
+same-unnamed f (real_value v) h = refl
+same-unnamed f (bool_value w) h = refl
+same-unnamed f (yes_list js) h = refl
+same-unnamed f (no_list js) h = refl
+same-unnamed f (rule_line r) h = ap rule_line (same-without f r h)
+same-unnamed f over h = refl
+same-unnamed f (crossing i) h = refl
+
+none-is : (o : Option ℕ) → is_some o ≡ false → o ≡ None
+none-is None e = refl
+none-is (Some i) e = absurd (cc)
+
+some-is : (o : Option ℕ) → is_some o ≡ true → (i : ℕ) × (o ≡ Some i)
+some-is None e = absurd (cc)
+some-is (Some i) e = (i, refl)
 
 pub none_named : (l : CertLine) → does_name l ≡ false → (f : ℕ → ℕ) → (lemma_named_in l ≡ None) × (renumbered f l ≡ l)
-none_named (version n) h f = (refl, refl)
-none_named (margin m) h f = (refl, refl)
-none_named (delta d) h f = (refl, refl)
-none_named (bound b) h f = (refl, refl)
-none_named (lower d) h f = (refl, refl)
-none_named (goal n) h f = (refl, refl)
-none_named (checks n) h f = (refl, refl)
-none_named (cover k) h f = (refl, refl)
-none_named (keep q) h f = (refl, refl)
-none_named point_word h f = (refl, refl)
-none_named tree_word h f = (refl, refl)
-none_named end_word h f = (refl, refl)
-none_named (lemma i) h f = (refl, refl)
-none_named (real_interval l u) h f = (refl, refl)
-none_named (real_value v) h f = (refl, refl)
-none_named (bool_value w) h f = (refl, refl)
-none_named (yes_list js) h f = (refl, refl)
-none_named (no_list js) h f = (refl, refl)
-none_named (rule_line l) h f = let e = names_none l h f in (e.0, ap rule_line e.1)
-none_named over h f = (refl, refl)
-none_named (crossing i) h f = (refl, refl)
-
-names-one : (r : Line) → names_by_word (word_of r) ≡ true → (i : ℕ) × (lemma_named r ≡ Some i)
-names-one (narrow_by (by_range j)) h = absurd (cc)
-names-one (mark_by (unit_atom j)) h = absurd (cc)
-names-one (end_by (void_by (by_range j))) h = absurd (cc)
-names-one (narrow_by (by_off_range j)) h = absurd (cc)
-names-one (end_by (void_by (by_off_range j))) h = absurd (cc)
-names-one (narrow_by (by_combination ms)) h = absurd (cc)
-names-one (end_by (void_by (by_combination ms))) h = absurd (cc)
-names-one (mark_by (ban_atom j i)) h = (i, refl)
-names-one (end_by false_form) h = absurd (cc)
-names-one (end_by (by_lemma i)) h = (i, refl)
-names-one (branch_by (cut_axis axis c)) h = absurd (cc)
-names-one (branch_by (flip_axis axis)) h = absurd (cc)
-names-one (branch_by (case_atom j)) h = absurd (cc)
-names-one (stay_by open_state) h = absurd (cc)
-names-one (stay_by (stuck_atom j)) h = absurd (cc)
+none_named l h f = let e = none-is (lemma_named_in l) h in (e, same-unnamed f l e)
 
 pub one_named : (l : CertLine) → does_name l ≡ true → (r : Line) × (i : ℕ) × (l ≡ rule_line r) × (lemma_named r ≡ Some i)
+one_named (rule_line r) h = let e = some-is (lemma_named r) h in (r, e.0, refl, e.1)
 one_named (version n) h = absurd (cc)
 one_named (margin m) h = absurd (cc)
 one_named (delta d) h = absurd (cc)
@@ -294,86 +331,55 @@ one_named (real_value v) h = absurd (cc)
 one_named (bool_value w) h = absurd (cc)
 one_named (yes_list js) h = absurd (cc)
 one_named (no_list js) h = absurd (cc)
-one_named (rule_line r) h = let e = names-one r h in (r, e.0, refl, e.1)
 one_named over h = absurd (cc)
 one_named (crossing i) h = absurd (cc)
 
 -- ---- the number of its lemma
 
+-- the two lines that name a lemma
+data IsNaming : Line → ℕ → Type 0 where
+  by_names : (i : ℕ) → IsNaming (by i) i
+  ban_names : (j i : ℕ) → IsNaming (ban j i) i
+
+is-naming : (r : Line) (i : ℕ) → lemma_named r ≡ Some i → IsNaming r i
+is-naming (narrow_by n) i h = absurd (let e : ◌≡◌ {A = Option ℕ} None (Some i) = h in cc)
+is-naming (end_by (void_by n)) i h = absurd (let e : ◌≡◌ {A = Option ℕ} None (Some i) = h in cc)
+is-naming (end_by false_form) i h = absurd (let e : ◌≡◌ {A = Option ℕ} None (Some i) = h in cc)
+is-naming (end_by (by_lemma k)) i h = let e : k ≡ i = cc in subst (IsNaming (by k)) e (by_names k)
+is-naming (mark_by (unit_atom j)) i h = absurd (let e : ◌≡◌ {A = Option ℕ} None (Some i) = h in cc)
+is-naming (mark_by (ban_atom j k)) i h = let e : k ≡ i = cc in subst (IsNaming (ban j k)) e (ban_names j k)
+is-naming (branch_by b) i h = absurd (let e : ◌≡◌ {A = Option ℕ} None (Some i) = h in cc)
+is-naming (stay_by t) i h = absurd (let e : ◌≡◌ {A = Option ℕ} None (Some i) = h in cc)
+
+front-ends : {r : Line} {i : ℕ} → IsNaming r i → (front : List ℕ) × (lemma_front r ≡ front ++ (32 ∷ []))
+front-ends (by_names i) = (codes "by", refl)
+front-ends (ban_names j i) = (codes "ban " ++ decimal j, refl)
+
 -- what stands before the number up to its space
 pub front_ends : (r : Line) (i : ℕ) → lemma_named r ≡ Some i → (front : List ℕ) × (lemma_front r ≡ front ++ (32 ∷ []))
-front_ends (narrow_by (by_range j)) i h = absurd (let e : ◌≡◌ {A = Option ℕ} None (Some i) = h in cc)
-front_ends (mark_by (unit_atom j)) i h = absurd (let e : ◌≡◌ {A = Option ℕ} None (Some i) = h in cc)
-front_ends (end_by (void_by (by_range j))) i h = absurd (let e : ◌≡◌ {A = Option ℕ} None (Some i) = h in cc)
-front_ends (narrow_by (by_off_range j)) i h = absurd (let e : ◌≡◌ {A = Option ℕ} None (Some i) = h in cc)
-front_ends (end_by (void_by (by_off_range j))) i h = absurd (let e : ◌≡◌ {A = Option ℕ} None (Some i) = h in cc)
-front_ends (narrow_by (by_combination ms)) i h = absurd (let e : ◌≡◌ {A = Option ℕ} None (Some i) = h in cc)
-front_ends (end_by (void_by (by_combination ms))) i h = absurd (let e : ◌≡◌ {A = Option ℕ} None (Some i) = h in cc)
-front_ends (mark_by (ban_atom j k)) i h = (codes "ban " ++ decimal j, refl)
-front_ends (end_by false_form) i h = absurd (let e : ◌≡◌ {A = Option ℕ} None (Some i) = h in cc)
-front_ends (end_by (by_lemma k)) i h = (codes "by", refl)
-front_ends (branch_by (cut_axis axis c)) i h = absurd (let e : ◌≡◌ {A = Option ℕ} None (Some i) = h in cc)
-front_ends (branch_by (flip_axis axis)) i h = absurd (let e : ◌≡◌ {A = Option ℕ} None (Some i) = h in cc)
-front_ends (branch_by (case_atom j)) i h = absurd (let e : ◌≡◌ {A = Option ℕ} None (Some i) = h in cc)
-front_ends (stay_by open_state) i h = absurd (let e : ◌≡◌ {A = Option ℕ} None (Some i) = h in cc)
-front_ends (stay_by (stuck_atom j)) i h = absurd (let e : ◌≡◌ {A = Option ℕ} None (Some i) = h in cc)
+front_ends r i h = front-ends (is-naming r i h)
+
+with-number : (f : ℕ → ℕ) {r : Line} {i : ℕ} → IsNaming r i → rule_text (line_by f r) ≡ lemma_front r ++ decimal (f i)
+with-number f (by_names i) = refl
+with-number f (ban_names j i) = ap (λ (xs : List ℕ). codes "ban " ++ xs) (sym (append_assoc (decimal j) (32 ∷ []) (decimal (f i))))
 
 -- the line with another number
 pub front_and_number : (r : Line) (i : ℕ) → lemma_named r ≡ Some i → (f : ℕ → ℕ) → rule_text (line_by f r) ≡ lemma_front r ++ decimal (f i)
-front_and_number (narrow_by (by_range j)) i h f = absurd (let e : ◌≡◌ {A = Option ℕ} None (Some i) = h in cc)
-front_and_number (mark_by (unit_atom j)) i h f = absurd (let e : ◌≡◌ {A = Option ℕ} None (Some i) = h in cc)
-front_and_number (end_by (void_by (by_range j))) i h f = absurd (let e : ◌≡◌ {A = Option ℕ} None (Some i) = h in cc)
-front_and_number (narrow_by (by_off_range j)) i h f = absurd (let e : ◌≡◌ {A = Option ℕ} None (Some i) = h in cc)
-front_and_number (end_by (void_by (by_off_range j))) i h f = absurd (let e : ◌≡◌ {A = Option ℕ} None (Some i) = h in cc)
-front_and_number (narrow_by (by_combination ms)) i h f = absurd (let e : ◌≡◌ {A = Option ℕ} None (Some i) = h in cc)
-front_and_number (end_by (void_by (by_combination ms))) i h f = absurd (let e : ◌≡◌ {A = Option ℕ} None (Some i) = h in cc)
-front_and_number (mark_by (ban_atom j k)) i h f =
-    let e : k ≡ i = cc in
-    ap (λ (xs : List ℕ). codes "ban " ++ xs) (sym (append_assoc (decimal j) (32 ∷ []) (decimal (f k)))) ∙ ap (λ (n : ℕ). (codes "ban " ++ (decimal j ++ (32 ∷ []))) ++ decimal (f n)) e
-front_and_number (end_by false_form) i h f = absurd (let e : ◌≡◌ {A = Option ℕ} None (Some i) = h in cc)
-front_and_number (end_by (by_lemma k)) i h f = let e : k ≡ i = cc in ap (λ (n : ℕ). codes "by " ++ decimal (f n)) e
-front_and_number (branch_by (cut_axis axis c)) i h f = absurd (let e : ◌≡◌ {A = Option ℕ} None (Some i) = h in cc)
-front_and_number (branch_by (flip_axis axis)) i h f = absurd (let e : ◌≡◌ {A = Option ℕ} None (Some i) = h in cc)
-front_and_number (branch_by (case_atom j)) i h f = absurd (let e : ◌≡◌ {A = Option ℕ} None (Some i) = h in cc)
-front_and_number (stay_by open_state) i h f = absurd (let e : ◌≡◌ {A = Option ℕ} None (Some i) = h in cc)
-front_and_number (stay_by (stuck_atom j)) i h f = absurd (let e : ◌≡◌ {A = Option ℕ} None (Some i) = h in cc)
+front_and_number r i h f = with-number f (is-naming r i h)
 
-same-line : (r : Line) → line_by (λ n. n) r ≡ r
-same-line (narrow_by (by_range j)) = refl
-same-line (mark_by (unit_atom j)) = refl
-same-line (end_by (void_by (by_range j))) = refl
-same-line (narrow_by (by_off_range j)) = refl
-same-line (end_by (void_by (by_off_range j))) = refl
-same-line (narrow_by (by_combination ms)) = refl
-same-line (end_by (void_by (by_combination ms))) = refl
-same-line (mark_by (ban_atom j i)) = refl
-same-line (end_by false_form) = refl
-same-line (end_by (by_lemma i)) = refl
-same-line (branch_by (cut_axis axis c)) = refl
-same-line (branch_by (flip_axis axis)) = refl
-same-line (branch_by (case_atom j)) = refl
-same-line (stay_by open_state) = refl
-same-line (stay_by (stuck_atom j)) = refl
+same-line : {r : Line} {i : ℕ} → IsNaming r i → line_by (λ n. n) r ≡ r
+same-line (by_names i) = refl
+same-line (ban_names j i) = refl
 
 pub its_number : (r : Line) (i : ℕ) → lemma_named r ≡ Some i → rule_text r ≡ lemma_front r ++ decimal i
-its_number r i h = ap rule_text (sym (same-line r)) ∙ front_and_number r i h (λ n. n)
+its_number r i h = ap rule_text (sym (same-line (is-naming r i h))) ∙ front_and_number r i h (λ n. n)
+
+number-counts : {r : Line} {i : ℕ} → IsNaming r i → IsSpelled (rule_line r) → i < 2 ^ 32
+number-counts (by_names i) s = s.0
+number-counts (ban_names j i) s = s.0.1
 
 pub number_counts : (r : Line) (i : ℕ) → lemma_named r ≡ Some i → IsSpelled (rule_line r) → i < 2 ^ 32
-number_counts (narrow_by (by_range j)) i h s = absurd (let e : ◌≡◌ {A = Option ℕ} None (Some i) = h in cc)
-number_counts (mark_by (unit_atom j)) i h s = absurd (let e : ◌≡◌ {A = Option ℕ} None (Some i) = h in cc)
-number_counts (end_by (void_by (by_range j))) i h s = absurd (let e : ◌≡◌ {A = Option ℕ} None (Some i) = h in cc)
-number_counts (narrow_by (by_off_range j)) i h s = absurd (let e : ◌≡◌ {A = Option ℕ} None (Some i) = h in cc)
-number_counts (end_by (void_by (by_off_range j))) i h s = absurd (let e : ◌≡◌ {A = Option ℕ} None (Some i) = h in cc)
-number_counts (narrow_by (by_combination ms)) i h s = absurd (let e : ◌≡◌ {A = Option ℕ} None (Some i) = h in cc)
-number_counts (end_by (void_by (by_combination ms))) i h s = absurd (let e : ◌≡◌ {A = Option ℕ} None (Some i) = h in cc)
-number_counts (mark_by (ban_atom j k)) i h s = let e : k ≡ i = cc in omega (arith, e, s.0.1)
-number_counts (end_by false_form) i h s = absurd (let e : ◌≡◌ {A = Option ℕ} None (Some i) = h in cc)
-number_counts (end_by (by_lemma k)) i h s = let e : k ≡ i = cc in omega (arith, e, s.0)
-number_counts (branch_by (cut_axis axis c)) i h s = absurd (let e : ◌≡◌ {A = Option ℕ} None (Some i) = h in cc)
-number_counts (branch_by (flip_axis axis)) i h s = absurd (let e : ◌≡◌ {A = Option ℕ} None (Some i) = h in cc)
-number_counts (branch_by (case_atom j)) i h s = absurd (let e : ◌≡◌ {A = Option ℕ} None (Some i) = h in cc)
-number_counts (stay_by open_state) i h s = absurd (let e : ◌≡◌ {A = Option ℕ} None (Some i) = h in cc)
-number_counts (stay_by (stuck_atom j)) i h s = absurd (let e : ◌≡◌ {A = Option ℕ} None (Some i) = h in cc)
+number_counts r i h s = number-counts (is-naming r i h) s
 
 -- ---- digits
 
