@@ -156,9 +156,13 @@ fn answer_at_atom(book: &Book, patch: &mut Patch, line: &Line) -> Option<Answer>
     match line {
         Line::Rule(Rule::Narrow(Narrowing::Pull(j))) if is_atom(book, *j) => Some(patch.pull(*j)),
         Line::Rule(Rule::Mark(Marking::Unit(j))) if is_atom(book, *j) => Some(patch.unit(*j)),
-        Line::Rule(Rule::End(Ending::Void(Narrowing::Pull(j)))) if is_atom(book, *j) => Some(patch.void(*j)),
+        Line::Rule(Rule::End(Ending::Void(Narrowing::Pull(j)))) if is_atom(book, *j) => Some(
+            patch.void(*j),
+        ),
         Line::Rule(Rule::Narrow(Narrowing::Push(j))) if is_atom(book, *j) => Some(patch.push(*j)),
-        Line::Rule(Rule::End(Ending::Void(Narrowing::Push(j)))) if is_atom(book, *j) => Some(patch.void_no(*j)),
+        Line::Rule(Rule::End(Ending::Void(Narrowing::Push(j)))) if is_atom(book, *j) => Some(
+            patch.void_no(*j),
+        ),
         Line::Rule(Rule::Branch(Branching::Case(j))) if is_atom(book, *j) => Some(patch.case(*j)),
         Line::Rule(Rule::Stay(Staying::Stuck(j))) if is_atom(book, *j) => Some(patch.stuck(*j)),
         _ => None,
@@ -175,9 +179,8 @@ fn answer_by(book: &Book, lemma: &Lemma, patch: &mut Patch, line: &Line) -> Opti
     ensures margins { patch.new.margins ≡ patch.old.margins }
 {
     match line {
-        Line::Rule(Rule::Mark(Marking::Ban(j, id))) if *id == lemma.id() && is_atom(book, *j) => Some(patch.ban(
-            *j, lemma,
-        )),
+        Line::Rule(Rule::Mark(Marking::Ban(j, id))) if *id == lemma.id() && is_atom(book, *j) =>
+            Some(patch.ban(*j, lemma)),
         Line::Rule(Rule::End(Ending::By(id))) if *id == lemma.id() => Some(patch.by(lemma)),
         _ => None,
     }
@@ -196,16 +199,15 @@ fn answer(book: &Book, lemma: Option<&Lemma>, patch: &mut Patch, line: &Line) ->
     match line {
         Line::Rule(Rule::End(Ending::False)) => Some(patch.make_false()),
         Line::Rule(Rule::Branch(Branching::Cut(_, _))) => Some(patch.cut()),
-        Line::Rule(Rule::Branch(Branching::Flip(axis))) if is_axis(book, *axis) => Some(patch.flip(*axis)),
-        Line::Rule(Rule::Narrow(Narrowing::Combine(pairs))) => Some(patch.combine(
+        Line::Rule(Rule::Branch(Branching::Flip(axis))) if is_axis(book, *axis) => Some(patch.flip(
+            *axis,
+        )),
+        Line::Rule(Rule::Narrow(Narrowing::Combine(pairs))) => Some(patch.combine(pairs)),
+        Line::Rule(Rule::End(Ending::Void(Narrowing::Combine(pairs)))) => Some(patch.void_combine(
             pairs,
         )),
-        Line::Rule(Rule::End(Ending::Void(Narrowing::Combine(pairs)))) => Some(
-            patch.void_combine(pairs),
-        ),
-        Line::Rule(Rule::Mark(Marking::Ban(_, _))) | Line::Rule(Rule::End(Ending::By(_))) => answer_by(
-            book, lemma?, patch, line,
-        ),
+        Line::Rule(Rule::Mark(Marking::Ban(_, _))) | Line::Rule(Rule::End(Ending::By(_))) =>
+            answer_by(book, lemma?, patch, line),
         _ => answer_at_atom(book, patch, line),
     }
 }
@@ -364,7 +366,8 @@ fn is_step(line: &Line, step: &Step) -> bool {
     match (line, step) {
         (Line::Rule(Rule::Narrow(Narrowing::Pull(j))), Step::Pull(k)) => *j == *k,
         (Line::Rule(Rule::Mark(Marking::Unit(j))), Step::Unit(k)) => *j == *k,
-        (Line::Rule(Rule::Mark(Marking::Ban(j, id))), Step::Ban(k, quoted)) => *j == *k && *id == *quoted,
+        (Line::Rule(Rule::Mark(Marking::Ban(j, id))), Step::Ban(k, quoted)) => *j == *k
+            && *id == *quoted,
         (Line::Rule(Rule::Narrow(Narrowing::Push(j))), Step::Push(k)) => *j == *k,
         (Line::Rule(Rule::Narrow(Narrowing::Combine(pairs))), Step::Combine(made)) =>
             pairs.as_slice() == made.pairs.as_slice(),
@@ -399,10 +402,8 @@ fn is_end(line: &Line, end: &End) -> bool {
         (Line::Rule(Rule::End(Ending::Void(Narrowing::Pull(j)))), End::Void(k)) => *j == *k,
         (Line::Rule(Rule::End(Ending::Void(Narrowing::Push(j)))), End::VoidNo(k)) => *j == *k,
         (Line::Rule(Rule::End(Ending::By(id))), End::By(quoted)) => *id == *quoted,
-        (
-            Line::Rule(Rule::End(Ending::Void(Narrowing::Combine(pairs)))),
-            End::VoidCombine(made),
-        ) => { pairs.as_slice() == made.pairs.as_slice() }
+        (Line::Rule(Rule::End(Ending::Void(Narrowing::Combine(pairs)))), End::VoidCombine(made)) =>
+            { pairs.as_slice() == made.pairs.as_slice() }
         _ => false,
     }
 }
