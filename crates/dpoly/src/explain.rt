@@ -323,10 +323,14 @@ fn say_no_goal(rt: &HostRuntime, messages: &Messages<'_>, desk: &FileDesk) {
             let (line, column) = (place.line as usize, place.column as usize);
             let _ = eprintln!(rt; "dpoly: an ite of Reals stands in the goal, {line}:{column}");
             messages.show_place(rt, &script, line, column);
-            let _ = eprintln!(rt; "dpoly: name its value by a constant z with bounds, (assert (= z (ite c a b))), and ask for (minimize z)");
+            let _ = eprintln!(rt;
+                "dpoly: name its value by a constant z with bounds, (assert (= z (ite c a b))), and ask for (minimize z)"
+            );
         }
         None => {
-            let _ = eprintln!(rt; "dpoly: no goal, as (minimize (+ x y)), is in force at the check");
+            let _ = eprintln!(rt;
+                "dpoly: no goal, as (minimize (+ x y)), is in force at the check"
+            );
         }
     }
 }

@@ -96,11 +96,12 @@ const HINTS: [Hint; 17] = [
 ];
 
 const FUNCTIONS: [&str; 14] = [
-    "sin", "cos", "tan", "asin", "acos", "atan", "sinh", "cosh", "tanh", "exp", "log", "abs", "min",
-    "max",
+    "sin", "cos", "tan", "asin", "acos", "atan", "sinh", "cosh", "tanh", "exp", "log", "abs",
+    "min", "max",
 ];
 
-const CONVERTED: &str = "this function is not in the language; `python3 -m dpoly convert` writes it by what is, or encloses it by a polynomial";
+const CONVERTED: &str =
+    "this function is not in the language; `python3 -m dpoly convert` writes it by what is, or encloses it by a polynomial";
 
 /// What helps where a certificate is refused so, and this is how it begins.
 const CERT_HINTS: [Hint; 5] = [

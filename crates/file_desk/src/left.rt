@@ -1,8 +1,8 @@
 // What the covers of a certificate leave, for people.
 use crate::portion::portion_at;
 use std::alloc::AllocError;
-use std::io::{self, BufRead, BufReader};
 use std::fs;
+use std::io::{self, BufRead, BufReader};
 
 const BRANCHES: [&str; 3] = ["cut", "flip", "case"];
 

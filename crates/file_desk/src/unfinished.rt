@@ -17,7 +17,11 @@ fn word_of<'a>(name: &'a str, instead: &'a str) -> &'a str {
             return instead;
         }
     }
-    if name.is_empty() || name.starts_with("-") { instead } else { name }
+    if name.is_empty() || name.starts_with("-") {
+        instead
+    } else {
+        name
+    }
 }
 
 impl<'a> Unfinished<'a> {
@@ -29,7 +33,9 @@ impl<'a> Unfinished<'a> {
         if let Ok(Some(left)) = left_in(rt, self.cert, check) {
             if let Ok(closed) = percent(rt.alloc(), left.closed) {
                 let boxes = left.boxes;
-                let _ = eprintln!(rt; "dpoly: boxes left: {boxes}; closed: {closed} of the declared box, where each split takes a box for two halves");
+                let _ = eprintln!(rt;
+                    "dpoly: boxes left: {boxes}; closed: {closed} of the declared box, where each split takes a box for two halves"
+                );
             }
         }
     }
@@ -40,7 +46,9 @@ impl<'a> Unfinished<'a> {
         let cert = word_of(self.cert, "CERT");
         let _ = match self.bound {
             Some(bound) => {
-                eprintln!(rt; "dpoly: to go on from it: dpoly resume --bound {bound} {script} {cert} OUT")
+                eprintln!(rt;
+                    "dpoly: to go on from it: dpoly resume --bound {bound} {script} {cert} OUT"
+                )
             }
             None => eprintln!(rt; "dpoly: to go on from it: dpoly resume {script} {cert} OUT"),
         };
