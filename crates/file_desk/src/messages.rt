@@ -4,6 +4,7 @@ ghost use Rattle.std.specs.Prelude.{◌<◌};
 use crate::decimals::{decimals_of, ends_of};
 use crate::files::FileDesk;
 use crate::hints::{cert_hint_for, hint_for};
+use crate::outputs::is_plain_file;
 use desk::Port;
 use std::alloc::{AllocError, Global};
 use std::io::Read;
@@ -117,10 +118,10 @@ fn sink<'a>(name: &'a str) -> &'a str {
     if name == "-" { "standard output" } else { name }
 }
 
-// The first bytes of a file; none where it cannot be read, or is a standard stream.
+// The first bytes of a plain file; none where it cannot be read.
 fn beginning(rt: &HostRuntime, name: &str) -> Vec<u8> {
     let mut bytes = Vec::new(rt.alloc());
-    if name == "-" {
+    if !is_plain_file(rt, name) {
         return bytes;
     }
     let mut buffer = [0u8; 16];

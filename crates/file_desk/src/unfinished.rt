@@ -1,5 +1,6 @@
 // What standard error says of a certificate that leaves boxes open or stuck: for people to read, and promised by no clause.
 use crate::left::left_in;
+use crate::outputs::is_plain_file;
 use crate::portion::percent;
 
 /// A certificate that leaves boxes, the script that it is of, and the bound of the call.
@@ -27,7 +28,7 @@ fn word_of<'a>(name: &'a str, instead: &'a str) -> &'a str {
 impl<'a> Unfinished<'a> {
     /// Says how many boxes the check with this number, from 0 on, is left with, and how much is closed.
     pub fn say_left(&self, rt: &HostRuntime, check: usize) {
-        if self.cert == "-" {
+        if !is_plain_file(rt, self.cert) {
             return;
         }
         if let Ok(Some(left)) = left_in(rt, self.cert, check) {
