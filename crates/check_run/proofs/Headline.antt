@@ -123,16 +123,18 @@ solve-unsat words script cert_in parts old new shows single wrote =
 -- ---- the answers of demo
 
 demo-so : (words : Demo) (script cert_in : List ℕ) (parts : List (List ℕ)) (old new : Sight) → IsShown (Some (demo words)) script cert_in parts old new Answered → IsDemonstrated words.options (demo_script words.seed words.size) old new
-demo-so words script cert_in parts old new (course, (p, built, cert, value, answers, e), status, went) = record {
-  problem = p;
-  built = built;
-  cert = cert;
-  value = value;
-  written = went.cert ∙ ap (λ (c : Course). appended old.cert_out c.cert) e;
-  answers = answers;
-  answer = went.answer ∙ ap (λ (c : Course). appended old.answer c.answer) e;
-  say = value-so words.options.bound (demo_script words.seed words.size) p cert (loosenings_of words.options) value built answers.accepted;
-}
+demo-so words script cert_in parts old new (course, can, status, went) =
+    let so = can.2 in
+    record {
+      problem = can.0;
+      built = can.1;
+      cert = so.0;
+      value = so.1;
+      written = went.cert ∙ ap (λ (c : Course). appended old.cert_out c.cert) so.3;
+      answers = so.2;
+      answer = went.answer ∙ ap (λ (c : Course). appended old.answer c.answer) so.3;
+      say = value-so words.options.bound (demo_script words.seed words.size) can.0 so.0 (loosenings_of words.options) so.1 can.1 so.2.accepted;
+    }
 
 demo-unsat : (words : Demo) (script cert_in : List ℕ) (parts : List (List ℕ)) (old new : Sight) → IsShown (Some (demo words)) script cert_in parts old new Answered → IsTrueUnsat (Some (demo words)) script cert_in parts old new
 demo-unsat words script cert_in parts old new shows bytes atoms wrote =

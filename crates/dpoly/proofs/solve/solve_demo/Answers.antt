@@ -10,4 +10,4 @@ returns-in-Ok-demo-clause-ends g c =
     let told = c.in-Ok.ensures in
     let count : length c.atoms.result.now ≡ length c.args.problem.now.atoms = sym (length-map c.atoms.result.now atom_of) ∙ ap length c.atoms.ensures.atoms in
     demonstrated _ c.args.options c.args.name.now c.args.script.now _ c.in-Ok.told.cert.items _ _ _ told.value _ _ _
-    told.answer told.text c.deref.ensures.value (c.in-Ok-demo.ensures ∙ ap (λ n. demo_text (length c.args.script.now) n) count) c.deref-in-Ok-demo.ensures.value c.finish.ensures.ends
+    told.answer (c.deref.ensures.value ∙ told.text) c.deref-in-Ok-demo.ensures.value (c.in-Ok-demo.ensures ∙ ap (λ n. demo_text (length c.args.script.now) n c.deref.result.now) count) c.deref-in-Ok-demo-2.ensures.value c.finish.ensures.ends
