@@ -1,23 +1,9 @@
 // What the covers of a certificate leave, for people.
 use crate::portion::portion_at;
+use cover_line::Word;
 use std::alloc::AllocError;
 use std::fs;
 use std::io::{self, BufRead, BufReader};
-
-const BRANCHES: [&str; 3] = ["cut", "flip", "case"];
-
-const CLOSINGS: [&str; 7] = ["empty", "void", "voidno", "voidcomb", "false", "by", "over"];
-
-const LEAVINGS: [&str; 2] = ["open", "stuck"];
-
-fn is_among(word: &str, words: &[&str]) -> bool {
-    for it in words {
-        if word == *it {
-            return true;
-        }
-    }
-    false
-}
 
 /// How many boxes a cover leaves open or stuck, and how much of its first box is closed.
 #[derive(Clone, Copy)]
@@ -59,15 +45,22 @@ impl Walk {
         self.depth = self.waiting.pop().unwrap_or(0);
     }
 
+    fn close(&mut self) {
+        self.left.closed = self.left.closed.saturating_add(portion_at(self.depth));
+        self.leave();
+    }
+
     fn take(&mut self, word: &str) -> Result<(), AllocError> {
-        if is_among(word, &BRANCHES) {
-            self.branch()?;
-        } else if is_among(word, &CLOSINGS) {
-            self.left.closed = self.left.closed.saturating_add(portion_at(self.depth));
-            self.leave();
-        } else if is_among(word, &LEAVINGS) {
-            self.left.boxes = self.left.boxes.saturating_add(1);
-            self.leave();
+        match Word::spelled(word.as_bytes()) {
+            Some(Word::Cut | Word::Flip | Word::Case) => self.branch()?,
+            Some(Word::Void(_) | Word::False | Word::By | Word::Empty) => self.close(),
+            Some(Word::Open | Word::Stuck) => {
+                self.left.boxes = self.left.boxes.saturating_add(1);
+                self.leave();
+            }
+            Some(Word::Narrow(_) | Word::Unit | Word::Ban) => {}
+            None if word == "over" => self.close(),
+            None => {}
         }
         Ok(())
     }
