@@ -8,16 +8,18 @@ ghost use Rattle.cover_book.specs.Tree.{lemma_tree};
 ghost use Rattle.cover_book.specs.Views.{learned_of};
 ghost use Rattle.cert_read.specs.CertLine.{rule_line};
 ghost use Rattle.cert_model.specs.Written.{domain_line, lemma_lines, point_line, rule_lines};
-ghost use Rattle.cert_text.specs.Calls.{Appends, header_of};
+ghost use Rattle.cert_text.specs.Calls.{Appends, AppendsRuled, header_of, operands_of};
 ghost use Rattle.cert_text.specs.Parts.{HasFewMarks, kept_lines, learned_lines};
 
 use crate::append::{
-    append_ban, append_combination, append_counted, append_cut, append_interval, append_marks,
-    append_plain, append_value,
+    append_counted, append_interval, append_marks, append_plain, append_ruled, append_value,
 };
-use crate::keyword::{Counted, Multiplied, Plain};
+use crate::keyword::{Counted, Plain};
+use crate::line::append_short_rule;
+use crate::operands::Operands;
 use cover_book::{Learned, Lines};
-use cover_data::{End, Options, State, Step};
+use cover_data::{Combination, End, Options, State, Step};
+use cover_line::{Branching, Ending, Marking, Narrowing, NarrowingKind, Rule, Staying, Word};
 use ival::{Domain, Space, Truths};
 use std::alloc::AllocError;
 
@@ -83,19 +85,30 @@ pub(crate) fn append_point(text: &mut Vec<u8>, point: &Space) -> Result<(), Allo
     Ok(())
 }
 
+// A line of a combination, by its first word.
+fn append_combination(
+    text: &mut Vec<u8>,
+    word: Word,
+    combination: &Combination,
+) -> Result<(), AllocError>
+    ensures { AppendsRuled text.old text.new word (operands_of combination.now) result }
+{
+    append_ruled(text, word, &Operands::Multipliers(&combination.pairs))
+}
+
 fn append_step(text: &mut Vec<u8>, step: &Step) -> Result<(), AllocError>
     ensures { Appends text.old text.new (rule_line (step_line step.now) ∷ []) result }
 {
     match step {
-        Step::Pull(atom) => append_counted(text, Counted::Pull, *atom),
-        Step::Push(atom) => append_counted(text, Counted::Push, *atom),
-        Step::Unit(atom) => append_counted(text, Counted::Unit, *atom),
-        Step::Ban(atom, lemma) => append_ban(text, *atom, *lemma),
-        Step::Combine(combination) => append_combination(
-            text,
-            Multiplied::Combine,
-            combination,
-        ),
+        Step::Pull(atom) => append_short_rule(text, &Rule::Narrow(Narrowing::Pull(*atom))),
+        Step::Push(atom) => append_short_rule(text, &Rule::Narrow(Narrowing::Push(*atom))),
+        Step::Unit(atom) => append_short_rule(text, &Rule::Mark(Marking::Unit(*atom))),
+        Step::Ban(atom, lemma) => {
+            append_short_rule(text, &Rule::Mark(Marking::Ban(*atom, *lemma)))
+        }
+        Step::Combine(combination) => {
+            append_combination(text, Word::Narrow(NarrowingKind::Combine), combination)
+        }
     }
 }
 
@@ -103,19 +116,21 @@ fn append_end(text: &mut Vec<u8>, end: &End) -> Result<(), AllocError>
     ensures { Appends text.old text.new (rule_line (end_line end.now) ∷ []) result }
 {
     match end {
-        End::Void(atom) => append_counted(text, Counted::Void, *atom),
-        End::VoidNo(atom) => append_counted(text, Counted::VoidNo, *atom),
-        End::VoidCombine(combination) => append_combination(
-            text,
-            Multiplied::VoidCombine,
-            combination,
-        ),
-        End::False => append_plain(text, Plain::False),
-        End::By(lemma) => append_counted(text, Counted::By, *lemma),
-        End::Cut(axis, at) => append_cut(text, *axis, *at),
-        End::Flip(axis) => append_counted(text, Counted::Flip, *axis),
-        End::Case(atom) => append_counted(text, Counted::Case, *atom),
-        End::Stuck(atom) => append_counted(text, Counted::Stuck, *atom),
+        End::Void(atom) => {
+            append_short_rule(text, &Rule::End(Ending::Void(Narrowing::Pull(*atom))))
+        }
+        End::VoidNo(atom) => {
+            append_short_rule(text, &Rule::End(Ending::Void(Narrowing::Push(*atom))))
+        }
+        End::VoidCombine(combination) => {
+            append_combination(text, Word::Void(NarrowingKind::Combine), combination)
+        }
+        End::False => append_short_rule(text, &Rule::End(Ending::False)),
+        End::By(lemma) => append_short_rule(text, &Rule::End(Ending::By(*lemma))),
+        End::Cut(axis, at) => append_short_rule(text, &Rule::Branch(Branching::Cut(*axis, *at))),
+        End::Flip(axis) => append_short_rule(text, &Rule::Branch(Branching::Flip(*axis))),
+        End::Case(atom) => append_short_rule(text, &Rule::Branch(Branching::Case(*atom))),
+        End::Stuck(atom) => append_short_rule(text, &Rule::Stay(Staying::Stuck(*atom))),
     }
 }
 
