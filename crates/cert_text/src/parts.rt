@@ -2,7 +2,8 @@
 ghost use Rattle.std.specs.Prelude.{◌≡◌, ◌≤◌, ◌+◌, ◌∷◌, [], length, map};
 ghost use Rattle.std.specs.List.{AllByRecursion};
 ghost use Rattle.ival.specs.SpaceViews.{domain_of, space_of};
-ghost use Rattle.cover_data.specs.Views.{step_line, end_line};
+ghost use Rattle.cover_line.specs.Line.{end_by};
+ghost use Rattle.cover_data.specs.Views.{closing_of, step_line, end_line};
 ghost use Rattle.cover_book.specs.Steps.{most_lemmas};
 ghost use Rattle.cover_book.specs.Tree.{lemma_tree};
 ghost use Rattle.cover_book.specs.Views.{learned_of};
@@ -18,7 +19,9 @@ use crate::keyword::{Counted, Plain};
 use crate::line::append_short_rule;
 use crate::operands::Operands;
 use cover_book::{Learned, Lines};
-use cover_data::{Combination, End, Options, State, Step};
+use cover_data::{
+    Closing, Combination, End, Narrowing as PatchNarrowing, Options, State, Step,
+};
 use cover_line::{Branching, Ending, Marking, Narrowing, NarrowingKind, Rule, Staying, Word};
 use ival::{Domain, Space, Truths};
 use std::alloc::AllocError;
@@ -100,15 +103,39 @@ fn append_step(text: &mut Vec<u8>, step: &Step) -> Result<(), AllocError>
     ensures { Appends text.old text.new (rule_line (step_line step.now) ∷ []) result }
 {
     match step {
-        Step::Pull(atom) => append_short_rule(text, &Rule::Narrow(Narrowing::Pull(*atom))),
-        Step::Push(atom) => append_short_rule(text, &Rule::Narrow(Narrowing::Push(*atom))),
-        Step::Unit(atom) => append_short_rule(text, &Rule::Mark(Marking::Unit(*atom))),
-        Step::Ban(atom, lemma) => {
-            append_short_rule(text, &Rule::Mark(Marking::Ban(*atom, *lemma)))
+        Step::Narrow(PatchNarrowing::Pull(atom)) => {
+            append_short_rule(text, &Rule::Narrow(Narrowing::Pull(*atom)))
         }
-        Step::Combine(combination) => {
+        Step::Narrow(PatchNarrowing::Push(atom)) => {
+            append_short_rule(text, &Rule::Narrow(Narrowing::Push(*atom)))
+        }
+        Step::Narrow(PatchNarrowing::Combine(combination)) => {
             append_combination(text, Word::Narrow(NarrowingKind::Combine), combination)
         }
+        Step::Mark(Marking::Unit(atom)) => {
+            append_short_rule(text, &Rule::Mark(Marking::Unit(*atom)))
+        }
+        Step::Mark(Marking::Ban(atom, lemma)) => {
+            append_short_rule(text, &Rule::Mark(Marking::Ban(*atom, *lemma)))
+        }
+    }
+}
+
+fn append_closing(text: &mut Vec<u8>, closing: &Closing) -> Result<(), AllocError>
+    ensures { Appends text.old text.new (rule_line (end_by (closing_of closing.now)) ∷ []) result }
+{
+    match closing {
+        Closing::Void(PatchNarrowing::Pull(atom)) => {
+            append_short_rule(text, &Rule::End(Ending::Void(Narrowing::Pull(*atom))))
+        }
+        Closing::Void(PatchNarrowing::Push(atom)) => {
+            append_short_rule(text, &Rule::End(Ending::Void(Narrowing::Push(*atom))))
+        }
+        Closing::Void(PatchNarrowing::Combine(combination)) => {
+            append_combination(text, Word::Void(NarrowingKind::Combine), combination)
+        }
+        Closing::False => append_short_rule(text, &Rule::End(Ending::False)),
+        Closing::By(lemma) => append_short_rule(text, &Rule::End(Ending::By(*lemma))),
     }
 }
 
@@ -116,20 +143,16 @@ fn append_end(text: &mut Vec<u8>, end: &End) -> Result<(), AllocError>
     ensures { Appends text.old text.new (rule_line (end_line end.now) ∷ []) result }
 {
     match end {
-        End::Void(atom) => {
-            append_short_rule(text, &Rule::End(Ending::Void(Narrowing::Pull(*atom))))
+        End::Close(closing) => append_closing(text, closing),
+        End::Part(Branching::Cut(axis, at)) => {
+            append_short_rule(text, &Rule::Branch(Branching::Cut(*axis, *at)))
         }
-        End::VoidNo(atom) => {
-            append_short_rule(text, &Rule::End(Ending::Void(Narrowing::Push(*atom))))
+        End::Part(Branching::Flip(axis)) => {
+            append_short_rule(text, &Rule::Branch(Branching::Flip(*axis)))
         }
-        End::VoidCombine(combination) => {
-            append_combination(text, Word::Void(NarrowingKind::Combine), combination)
+        End::Part(Branching::Case(atom)) => {
+            append_short_rule(text, &Rule::Branch(Branching::Case(*atom)))
         }
-        End::False => append_short_rule(text, &Rule::End(Ending::False)),
-        End::By(lemma) => append_short_rule(text, &Rule::End(Ending::By(*lemma))),
-        End::Cut(axis, at) => append_short_rule(text, &Rule::Branch(Branching::Cut(*axis, *at))),
-        End::Flip(axis) => append_short_rule(text, &Rule::Branch(Branching::Flip(*axis))),
-        End::Case(atom) => append_short_rule(text, &Rule::Branch(Branching::Case(*atom))),
         End::Stuck(atom) => append_short_rule(text, &Rule::Stay(Staying::Stuck(*atom))),
     }
 }
