@@ -19,9 +19,7 @@ use crate::keyword::{Counted, Plain};
 use crate::line::append_short_rule;
 use crate::operands::Operands;
 use cover_book::{Learned, Lines};
-use cover_data::{
-    Closing, Combination, End, Narrowing as PatchNarrowing, Options, State, Step,
-};
+use cover_data::{Closing, Combination, End, Narrowing as PatchNarrowing, Options, State, Step};
 use cover_line::{Branching, Ending, Marking, Narrowing, NarrowingKind, Rule, Staying, Word};
 use ival::{Domain, Space, Truths};
 use std::alloc::AllocError;
