@@ -91,12 +91,7 @@ fn first_line(text: &[u8]) -> &[u8]
 }
 
 /// A script of so many bytes and atoms was made, of which `solve` answers this.
-pub fn demo(
-    alloc: Global,
-    bytes: u64,
-    atoms: u64,
-    answer: &[u8],
-) -> Result<Vec<u8>, AllocError>
+pub fn demo(alloc: Global, bytes: u64, atoms: u64, answer: &[u8]) -> Result<Vec<u8>, AllocError>
     ensures { IfOk result (λ text. text.items ≡ demo_text bytes atoms answer.now) }
 {
     let head = format!(in alloc; "script {bytes} atoms {atoms} answer ")?;
