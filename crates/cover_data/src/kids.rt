@@ -58,11 +58,7 @@ fn cases(alloc: Global, state: &State, j: u32) -> Result<(State, State), AllocEr
 }
 
 // The two states that a branch leaves.
-fn parts(
-    alloc: Global,
-    state: &State,
-    branching: Branching,
-) -> Result<(State, State), AllocError>
+fn parts(alloc: Global, state: &State, branching: Branching) -> Result<(State, State), AllocError>
     requires { IsTrue (can_branch state.now (branching_of branching)) }
     ensures first { IfOk result (λ p. p.0 ≡ first_child state.now (branching_of branching)) }
     ensures second { IfOk result (λ p. p.1 ≡ second_child state.now (branching_of branching)) }
