@@ -1,5 +1,5 @@
 -- The tree of a book is lawful, leaves the states of its live and stuck nodes, and is honest.
-use Rattle.std.proofs.Common.{◌≡◌, ℕ, List, [], ◌∷◌, ◌++◌, Bool, true, false, cond, not, ◌&&◌, Option, Some, None, IsTrue, refl, ap, ap₂, sym, ◌∙◌, subst, true≢false}
+use Rattle.std.proofs.Common.{◌≡◌, ℕ, List, [], ◌∷◌, ◌++◌, Bool, true, false, cond, Option, Some, None, IsTrue, refl, ap, ap₂, sym, ◌∙◌, subst, true≢false}
 use Rattle.std.specs.Prelude.{slice_get, IfSome}
 use Rattle.std.specs.List.{AllByRecursion}
 use Rattle.poly_graph.specs.Problem.{Problem, IsProblem}
