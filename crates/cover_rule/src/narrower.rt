@@ -7,7 +7,7 @@ ghost use Rattle.ival.specs.Narrows.{IsNarrowed};
 ghost use Rattle.ival.specs.SpaceViews.{space_of};
 ghost use Rattle.cover_data.specs.Margins.{AreMargins};
 ghost use Rattle.cover_model.specs.Rules.{end_by, narrow_by, void_by};
-ghost use Rattle.cover_data.specs.Views as data;
+ghost use Rattle.cover_data.specs.Views as views;
 ghost use Rattle.cover_data.specs.Views.{end_line, step_line};
 ghost use Rattle.cover_rule.specs.declared.refusal.PatchRefusal.TheVariants as refusal;
 ghost use Rattle.cover_rule.specs.Narrowers.{NamesAtom, CanNarrow, IsSized, TakesMemory, may_narrow, narrowing_of, narrows_to};
@@ -139,7 +139,7 @@ pub fn leaves_nothing(
 // The narrowing, in memory of its own.
 fn kept(alloc: Global, by: Narrower) -> Result<Narrowing, AllocError>
     requires { IsSized by }
-    ensures narrowing { IfOk result (λ n. data.narrowing_of n ≡ narrowing_of by.entry) }
+    ensures narrowing { IfOk result (λ n. views.narrowing_of n ≡ narrowing_of by.entry) }
     ensures memory { OnErr result (TakesMemory by.entry) }
 {
     match by {
