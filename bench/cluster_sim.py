@@ -23,9 +23,12 @@ import collections
 import heapq
 import itertools
 import math
+import os
 import random
+import sys
 
-BRANCHES, STEPS = ('cut', 'flip', 'case'), ('pull', 'push', 'comb', 'unit', 'ban')
+sys.path.insert(0, os.path.join(os.path.dirname(os.path.dirname(os.path.abspath(__file__))), 'checker'))
+from dpoly_lines import rule_of  # noqa: E402
 
 
 def shares(name, least):
@@ -35,13 +38,13 @@ def shares(name, least):
     top = max(place for place, line in enumerate(lines) if line == 'tree')
     found, sizes = [], []
     for line in reversed(lines[top + 1 :]):
-        word = line.split(' ', 1)[0]
-        if word in BRANCHES:
+        below = rule_of(line).left
+        if below == 2:
             first, second = sizes.pop(), sizes.pop()
             sizes.append(1 + first + second)
             if first + second >= least:
                 found.append((1 + first + second, first / (first + second)))
-        elif word not in STEPS:
+        elif not below:
             sizes.append(0)
     return sorted(found), sizes[0], len(lines) - top - 1
 

@@ -14,8 +14,11 @@ from sets import Script, others, own
 from terms import has_power, in_squares, parse, spelled
 
 HERE = os.path.dirname(os.path.abspath(__file__))
+sys.path.insert(1, os.path.join(os.path.dirname(HERE), 'checker'))
+from dpoly_lines import RULES  # noqa: E402
+
 TWIN = os.path.join(HERE, 'twin', 'target', 'release', 'twin')
-BRANCHES = ('cut ', 'flip ', 'case ')
+BRANCHES = tuple(word + ' ' for word, rule in RULES.items() if rule.shape == 'parts')
 COUNTS = '-'  # the load of a row in which nothing is timed
 SOLVED = ('sat', 'unsat', 'delta-sat')
 MOST_SPLITS = '1048576'  # the greatest budget of one call

@@ -33,6 +33,7 @@ from typing import Any, Callable, Dict, List, Mapping, NamedTuple, Optional, Seq
 
 from dpoly_forms import Form
 from dpoly_intervals import INFINITE, UNIT, End, Interval, meet, rounded, within
+from dpoly_lines import RULES, Rule
 from dpoly_roots import rewritten
 from dpoly_rows import Combiner, Graph, Narrowed, Pair, Rows, Space, narrowed
 from dpoly_script import (SCRIPT_FAULTS, WIDEST, Names, Problem, ScriptFault, Terms,
@@ -98,15 +99,6 @@ def kept_range(kind: str, loosening: End, mark: bool = True) -> Interval:
 
 
 # ---------------------------------------------------------------- The cover
-YES_RULES, NO_RULES = {'pull', 'void'}, {'push', 'voidno'}
-COMBINATION_RULES = {'comb', 'voidcomb'}
-NARROWING_RULES = YES_RULES | NO_RULES | COMBINATION_RULES
-EMPTYING_RULES = {'void', 'voidno', 'voidcomb'}
-ATOM_RULES = NARROWING_RULES | {'unit', 'ban', 'case', 'stuck'}
-AXIS_RULES = {'empty', 'cut', 'flip'}
-RULES = ATOM_RULES | AXIS_RULES | {'false', 'by', 'open', 'over'}
-
-
 class Cover:
     """The cover of a certificate of some version, or of a part, with the lemmas that it keeps;
     margin and delta are ends, and so is `lower`, the bound of a least value."""
@@ -167,8 +159,8 @@ class Cover:
     def after(self, word: str, numbers: Values, state: State, main: bool) -> Optional[List[State]]:
         """The states that a line leaves of a state, or None if its condition fails; `main` is true
         in the main tree."""
-        if word in NARROWING_RULES:
-            return self.after_narrowing(word, numbers, state)
+        if RULES[word].by:
+            return self.after_narrowing(RULES[word], numbers, state)
         first = numbers[0] if numbers else None
         if word in ('unit', 'ban', 'case'):
             return self.after_marking(word, numbers, state)
@@ -208,27 +200,27 @@ class Cover:
             return [yes] if not self.may(no, atom) else None
         return [no] if self.cites(numbers[1], yes) else None
 
-    def after_narrowing(self, word: str, numbers: Values, state: State) -> Optional[List[State]]:
+    def after_narrowing(self, rule: Rule, numbers: Values, state: State) -> Optional[List[State]]:
         """The same for the lines that narrow by an atom or by a combination."""
-        if word not in YES_RULES and self.version < 2:
+        if rule.by != 'range' and self.version < 2:
             return None
-        atoms = numbers[::2] if word in COMBINATION_RULES else numbers
+        atoms = [it for kind, it in zip(rule.kinds(len(numbers)), numbers) if kind == 'A']
         marks = [state.marks.get(it) for it in atoms]
         for atom, mark in zip(atoms, marks):
             if mark is None or not mark and self.atoms[atom][1] == '=':
                 return None
         self.rows.follow(state.space)
-        if word in COMBINATION_RULES:
+        if rule.by == 'combination':
             if not is_combination(atoms, numbers[1::2]):
                 return None
             axes = self.combiner.combined([
                 Pair(self.atoms[atom][0], multiplier, self.kept(atom, mark))
                 for atom, multiplier, mark in zip(atoms, numbers[1::2], marks)])
         else:
-            if marks[0] != (word in YES_RULES):
+            if marks[0] != (rule.by == 'range'):
                 return None
             axes = narrowed(self.rows, self.atoms[atoms[0]][0], self.kept(atoms[0], marks[0]))
-        if word in EMPTYING_RULES:
+        if rule.shape == 'ends':
             return [] if axes is None else None
         return [state.narrowed_to(axes)] if axes is not None else None
 
@@ -252,21 +244,16 @@ class Cover:
                 left = self.after(word, numbers, state, main)
             if left is None:
                 raise CertificateFault('RuleFails', word)
-            count += word in ('open', 'stuck')
+            count += RULES[word].shape == 'stays'
             waiting.extend(reversed(left))
         return count
 
     def check_names(self, word: str, numbers: Values) -> None:
         """Each number that names an axis or an atom has to name one."""
-        if word in AXIS_RULES:
-            is_named = numbers[0] < len(self.axes)
-        elif word in ATOM_RULES:
-            atoms = numbers[::2] if word in COMBINATION_RULES else numbers[:1]
-            is_named = max(atoms) < len(self.atoms)
-        else:
-            return
-        if not is_named:
-            raise CertificateFault('BadNumber')
+        limits = {'A': len(self.atoms), 'X': len(self.axes)}
+        for kind, number in zip(RULES[word].kinds(len(numbers)), numbers):
+            if kind in limits and number >= limits[kind]:
+                raise CertificateFault('BadNumber')
 
     def after_empty(self, word: str, numbers: Values) -> Optional[List[State]]:
         """What a line of the main tree leaves where the declared box is empty."""
@@ -336,26 +323,24 @@ def is_combination(atoms: Sequence[int], multipliers: Sequence[End]) -> bool:
 
 
 # ---------------------------------------------------------------- Lines
-# What follows the word of a line: N a number below 2^32, D a number of the grid, B or L the one or
-# the other, or `none`, T a key of DOMAINS.
-SHAPES = {
-    **dict.fromkeys('dpoly margin delta goal checks cover keep lemma empty pull unit void push '
-                    'voidno by flip case stuck'.split(), 'N'),
-    **dict.fromkeys('point tree end false open over'.split(), ''),
-    'ban': 'NN', 'cut': 'ND', 'bound': 'B', 'lower': 'L', 'bool': 'T'}
+# What follows the word of a line that is none of a tree: N a number below 2^32, D a number of the
+# grid, B or L the one or the other, or `none`, T a key of DOMAINS.
+KINDS = {
+    **dict.fromkeys('dpoly margin delta goal checks cover keep lemma'.split(), 'N'),
+    **dict.fromkeys('point tree end'.split(), ''), 'bound': 'B', 'lower': 'L', 'bool': 'T'}
 NATURAL = re.compile('0|[1-9][0-9]{0,9}').fullmatch
 DYADIC = re.compile('(-?[1-9][0-9]{0,18})b(0|-?[1-9][0-9]{0,2})').fullmatch
 
 
-def shape(word: str, count: int) -> Optional[str]:
-    """The same for a line with so many words after the first; None if it is no word of a line."""
-    if word in COMBINATION_RULES:
-        return 'ND' * max(1, count // 2)
+def kinds_of(word: str, count: int) -> Optional[str]:
+    """The same for any line with so many words after the first; None if it is no word of a line."""
+    if word in RULES:
+        return RULES[word].kinds(count)
     if word in ('yes', 'no'):
         return 'N' * count
     if word == 'real':
         return 'DD' if count == 2 else 'D'
-    return SHAPES.get(word)
+    return KINDS.get(word)
 
 
 def natural(word: str) -> int:
@@ -380,7 +365,7 @@ def grid_number(word: str) -> End:
 
 # What reads a word of each kind; `none` is None.
 READERS: Dict[str, Callable[[str], Any]] = {
-    'N': natural, 'D': grid_number, 'T': str,
+    **dict.fromkeys('NAXM', natural), 'D': grid_number, 'T': str,
     'B': lambda word: None if word == 'none' else natural(word),
     'L': lambda word: None if word == 'none' else grid_number(word)}
 
@@ -404,7 +389,7 @@ class Lines:
         if len(line) > LONGEST_LINE:
             raise CertificateFault('LineTooLong')
         word, *rest = line.decode('latin-1').split(' ')
-        kinds = shape(word, len(rest))
+        kinds = kinds_of(word, len(rest))
         if kinds is None or len(kinds) != len(rest) or '' in rest or not line.isascii():
             raise CertificateFault('BadLine')
         if kinds == 'T' and rest[0] not in DOMAINS:

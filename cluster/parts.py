@@ -19,9 +19,12 @@ import time
 from dataclasses import asdict, dataclass, field
 from typing import List, Optional
 
+sys.path.insert(1, os.path.join(os.path.dirname(os.path.dirname(os.path.realpath(__file__))), 'checker'))
+from dpoly_lines import RULES  # noqa: E402
+
 # So many bytes a certificate has at most, and each other file: what is known of a result, a task, a driver's name.
 MOST_OF_CERTIFICATE, MOST_KNOWN = 1 << 32, 1 << 26
-BRANCHES, STEPS, LEAVING = {b'cut', b'flip', b'case'}, {b'pull', b'push', b'comb', b'unit', b'ban'}, {b'open', b'stuck'}
+WORDS = {it.encode(): rule for it, rule in RULES.items()}
 
 
 @dataclass
@@ -78,20 +81,24 @@ def beside(name):
     return '%s.%s.%d' % (name, os.uname().nodename, os.getpid())
 
 
-def word(line):
-    return line.split(b' ', 1)[0]
+def rule_of(line):
+    """The rule of a line of a tree. An error where it has none."""
+    rule = WORDS.get(line.split(b' ', 1)[0])
+    if rule is None:
+        raise ValueError('%r is no line of a tree' % line[:80])
+    return rule
 
 
-def outline(tree, words, own):
+def outline(tree, rules, own):
     """The lines of a tree in which each tree that has none of its own open lines, by their numbers, is None."""
-    number, trees = sum(it in LEAVING for it in words), []
+    number, trees = sum(it.shape == 'stays' for it in rules), []
     # from the last line to the first; the lines of each tree are in this order too
-    for line, first_word in zip(reversed(tree), reversed(words)):
-        if first_word in BRANCHES:
+    for line, rule in zip(reversed(tree), reversed(rules)):
+        if rule.left == 2:
             first, second = trees.pop(), trees.pop()
             trees.append([None] if first == second == [None] else second + first + [line])
-        elif first_word not in STEPS:
-            number -= first_word in LEAVING
+        elif rule.left == 0:
+            number -= rule.shape == 'stays'
             trees.append([line if line == b'open' and number in own else None])
         elif trees[-1] != [None]:
             trees[-1].append(line)
@@ -135,15 +142,15 @@ def keep(name, there, seconds=0):
     if not known.is_point:
         top = len(lines) - lines[::-1].index(b'tree')
         tree = lines[top:-2]
-        words = [word(line) for line in tree]
-        leaving = sum(it in LEAVING for it in words)
+        rules = [rule_of(line) for line in tree]
+        leaving = sum(it.shape == 'stays' for it in rules)
         before = told(parent) if parent else Known(False, open=1)
         own = range(int(number or 0), leaving - (before.open - 1 - int(number or 0)))
-        left = outline(tree, words, own)
+        left = outline(tree, rules, own)
         leaves = [line for line in left if line in (b'open', None)]
         known.parts, known.open = [place for place, line in enumerate(leaves) if line], len(leaves)
-        known.branches = sum(word(line or b'') in BRANCHES for line in left)
-        known.splits = sum(it in BRANCHES for it in words) - before.branches
+        known.branches = sum(line is not None and rule_of(line).left == 2 for line in left)
+        known.splits = sum(it.left == 2 for it in rules) - before.branches
     result = 'done/%s.cert' % name
     if there != result:
         try:

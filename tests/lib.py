@@ -9,6 +9,9 @@ TOP = os.path.dirname(os.path.dirname(os.path.abspath(__file__)))
 BENCH = os.path.join(TOP, 'bench', 'scripts')
 SECOND = os.path.join(TOP, 'checker', 'dpoly_checker.py')
 
+sys.path.insert(1, os.path.dirname(SECOND))
+from dpoly_lines import rule_of  # noqa: E402
+
 # ---- scripts and certificates
 
 BOX = '(declare-const x Real)\n(assert (<= 0 x 1))\n'
@@ -27,10 +30,6 @@ UNBOUNDED = SPREAD % ('', 1)
 HEAD = 'dpoly 2\nmargin 20\ndelta 10\nbound none\n'
 UNSAT = 'unsat\nmargin 1b-20\n'
 PLENTY = '1048576'
-# The words of the lines of a tree that leave two states, or one, or a state that is not closed.
-BRANCHES = ('cut', 'flip', 'case')
-STEPS = ('pull', 'push', 'comb', 'unit', 'ban')
-LEAVING = ('open', 'stuck')
 
 
 def jobs(times, room):
@@ -48,18 +47,28 @@ def word(line):
     return line.split(' ')[0]
 
 
+def is_branch(line):
+    """Whether a line of a tree leaves two states."""
+    return rule_of(line).shape == 'parts'
+
+
+def stays(line):
+    """Whether a line of a tree leaves its state open or stuck."""
+    return rule_of(line).shape == 'stays'
+
+
 def after_tree(lines, at):
     """The place behind the tree that begins at this place."""
     due = 1
     while due:
-        due += 1 if word(lines[at]) in BRANCHES else 0 if word(lines[at]) in STEPS else -1
+        due += rule_of(lines[at]).left - 1
         at += 1
     return at
 
 
 def left(tree):
     """How many states a tree leaves open or stuck."""
-    return sum(word(line) in LEAVING for line in tree)
+    return sum(map(stays, tree))
 
 
 # ---- tests

@@ -17,10 +17,14 @@ from typing import Any, Dict, Iterator, List, NamedTuple, Optional, Sequence, Tu
 
 from .plain import checker  # isort: skip
 from dpoly_intervals import UNIT  # noqa: E402
+from dpoly_lines import RULES  # noqa: E402
 from dpoly_roots import Trees, rewritten  # noqa: E402
 from dpoly_script import Claim, Expression, Names, Problem, ScriptFault, read_expressions, steps_of  # noqa: E402
 
 PIECE = 200  # lines in one definition
+# What Coq calls the lines of a word; those of `false` and `unit` name a conjunct besides.
+CONSTRUCTORS = {"pull": "LPull", "push": "LPush", "comb": "LComb", "void": "LVoid", "voidno": "LVoidNo", "voidcomb": "LVoidComb", "by": "LBy",
+                "over": "LOver", "ban": "LBan", "cut": "LCut", "flip": "LFlip", "case": "LCase"}
 WIDEST_BOUND = 2**32 - 1
 
 
@@ -443,21 +447,23 @@ class Follower:
         left = self.cover.after(word, numbers, state, main)
         if left is None:
             return None, None
-        first = numbers[0] if numbers else 0
-        if word in ("pull", "void", "push", "voidno", "case"):
-            name = {"pull": "LPull", "void": "LVoid", "push": "LPush", "voidno": "LVoidNo", "case": "LCase"}[word]
-            return f"{name} {self.atom(first)}", left
-        if word in ("comb", "voidcomb"):
-            return f"{'LComb' if word == 'comb' else 'LVoidComb'} [{self.pairs(numbers)}]", left
-        if word == "ban":
-            return f"LBan {self.atom(first)} {numbers[1] + 1}", left
-        if word == "cut":
-            return f"LCut {self.axes[first]} {grid(numbers[1])}", left
-        if word == "flip":
-            return f"LFlip {self.bools[first]}", left
-        if word == "by":
-            return f"LBy {first + 1}", left
-        return {"over": "LOver", "empty": "LEmpty"}.get(word), left
+        return " ".join([CONSTRUCTORS[word], *self.operands(word, numbers)]), left
+
+    def operands(self, word: str, numbers: Sequence[int]) -> Iterator[str]:
+        """What stands behind the constructor."""
+        rule = RULES[word]
+        if rule.by == "combination":
+            yield f"[{self.pairs(numbers)}]"
+            return
+        for kind, number in zip(rule.kinds(len(numbers)), numbers):
+            if kind == "A":
+                yield str(self.atom(number))
+            elif kind == "M":
+                yield str(number + 1)
+            elif kind == "D":
+                yield grid(number)
+            else:
+                yield str((self.axes if number in self.cover.declared else self.bools)[number])
 
     def tree(self, lines: Any, state: Any, main: bool) -> List[str]:
         """The lines of the tree of a state."""
@@ -465,12 +471,13 @@ class Follower:
         while waiting:
             state = waiting.pop()
             word, numbers = lines.take() or (None, [])
-            if word not in checker.RULES:
+            if word not in RULES:
                 raise Refused(f"line {lines.number}: a line of a tree is missing")
-            if word in ("open", "stuck"):
+            rule = RULES[word]
+            if rule.shape == "stays":
                 raise Refused(f"line {lines.number}: the certificate leaves a box open, so it proves nothing")
-            named = numbers[::2] if word in ("comb", "voidcomb") else numbers[:1]
-            if any(it >= len(self.cover.axes if word in checker.AXIS_RULES else self.cover.atoms) for it in named) and word != "by":
+            limits = {"A": len(self.cover.atoms), "X": len(self.cover.axes)}
+            if any(kind in limits and it >= limits[kind] for kind, it in zip(rule.kinds(len(numbers)), numbers)):
                 raise Refused(f"line {lines.number}: there is no such number")
             text, left = self.line(word, numbers, state, main)
             if text is None or left is None:

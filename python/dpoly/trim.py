@@ -15,6 +15,7 @@ from typing import Any, Dict, FrozenSet, Iterator, List, NamedTuple, Optional, S
 
 from .plain import checker  # isort: skip
 from dpoly_intervals import UNIT  # noqa: E402
+from dpoly_lines import RULES, rule_of  # noqa: E402
 from dpoly_script import ScriptFault  # noqa: E402
 
 WORDS = {domain: word for word, domain in checker.DOMAINS.items()}
@@ -113,7 +114,7 @@ class Follower:
     def line(self, word: str, numbers: Sequence[int], text: str, state: Any, main: bool) -> Tuple[Line, List[Any]]:
         """What a line reads and gives, and the states that it leaves."""
         none: FrozenSet[Need] = frozenset()
-        first = numbers[0] if numbers else 0
+        rule, first = RULES[word], numbers[0] if numbers else 0
         if main and self.problem.empty:
             return Line(text, 0, (), frozenset({("low", first), ("high", first)})), []
         if word in ("false", "unit"):
@@ -124,17 +125,17 @@ class Follower:
                 return Line(text, 0, (), frozenset(why)), []
             given = frozenset({("mark", first)})
             return Line(text, 1, (given,), frozenset(why) - given), [state.marked(first, True)]
-        if word in ("open", "stuck"):
+        if rule.shape == "stays":
             raise Untrimmed("it leaves a box open, and is left as it is")
         left = self.cover.after(word, numbers, state, main)
         if left is None:
             raise Untrimmed(f"the condition of {word} fails")
-        if word in ("pull", "push", "void", "voidno", "comb", "voidcomb"):
-            reads = frozenset(self.atoms_read(numbers[::2] if word in ("comb", "voidcomb") else numbers))
+        if rule.by:
+            reads = frozenset(self.atoms_read([it for kind, it in zip(rule.kinds(len(numbers)), numbers) if kind == "A"]))
             return Line(text, len(left), tuple(self.moved(state.space, it.space) for it in left), reads), left
-        if word in ("ban", "by"):
+        if "M" in rule.operands:
             lemma = numbers[-1]
-            given = frozenset({("mark", first)}) if word == "ban" else none
+            given = frozenset({("mark", first)}) if rule.shape == "marks" else none
             return Line(text, len(left), (given,) * len(left), self.lemma_needs[lemma] - given), left
         if word == "cut":
             return Line(text, 2, (frozenset({("high", first)}), frozenset({("low", first)})), none), left
@@ -154,7 +155,7 @@ class Follower:
             word, numbers = lines.take() or (None, [])
             if self.end is not None and time.monotonic() > self.end:
                 raise Untrimmed("the time is over")
-            if word not in checker.RULES:
+            if word not in RULES:
                 raise Untrimmed(f"line {lines.number}: a line of a tree is missing")
             text = lines.lines[lines.number - 1].decode("ascii")
             try:
@@ -184,7 +185,7 @@ def trimmed(lines: Sequence[Line]) -> Trimmed:
 
 def is_narrowing(line: Line) -> bool:
     """Whether the line moves ends that it reads as well."""
-    return line.text.split(" ")[0] in ("pull", "push", "comb")
+    return rule_of(line.text).shape == "narrows"
 
 
 def texts_of(tree: Any) -> Iterator[str]:
@@ -253,12 +254,12 @@ def needs_of(lemma: Any, root: Any, declared: Any) -> Iterator[Need]:
 
 
 def cited_by(texts: Sequence[str]) -> Set[int]:
-    return {int(it.split(" ")[-1]) for it in texts if it.split(" ")[0] in ("by", "ban")}
+    return {int(it.split(" ")[-1]) for it in texts if "M" in rule_of(it).operands}
 
 
 def renumbered(text: str, numbers: Dict[int, int]) -> str:
     word, *rest = text.split(" ")
-    return " ".join([word, *rest[:-1], str(numbers[int(rest[-1])])]) if word in ("by", "ban") else text
+    return " ".join([word, *rest[:-1], str(numbers[int(rest[-1])])]) if "M" in rule_of(text).operands else text
 
 
 def read_trimmed(cover: Any, lines: Any, count: int, end: Optional[float] = None) -> Tuple[List[Lemma], Trimmed]:

@@ -1,9 +1,9 @@
 -- How many states a line leaves is told by the line alone, so lawful trees are shaped.
-use Rattle.std.proofs.Common.{◌≡◌, List, Bool, true, false, not, ◌&&◌, cond, Option, Some, None, refl, subst}
+use Rattle.std.proofs.Common.{◌≡◌, List, Bool, true, false, not, cond, Option, Some, None, refl, subst}
 use Rattle.poly_graph.specs.Problem.{Problem}
-use Rattle.interval_model.specs.Space.{Space, strictly_inside, lower_part, upper_part, is_undecided, keep, test_axis}
-use Rattle.cover_model.specs.State.{State, Loosenings, in_yes, undecided, with_yes, with_no, may}
-use Rattle.cover_model.specs.Rules.{Line, by, Left, closed, one, two, stays, rule, when, pulled, voided, narrowing, narrowing_off, combining, can_push, can_combine, lemma_covers, with_changed, is_stuck_atom, narrow_by, by_range, by_off_range, by_combination, end_by, void_by, false_form, by_lemma, mark_by, unit_atom, ban_atom, branch_by, cut_axis, flip_axis, case_atom, stay_by, open_state, stuck_atom}
+use Rattle.interval_model.specs.Space.{Space}
+use Rattle.cover_model.specs.State.{State, Loosenings, may}
+use Rattle.cover_model.specs.Rules.{Line, narrow_by, end_by, mark_by, branch_by, stay_by, Ending, void_by, false_form, by_lemma, Left, closed, one, two, stays, rule, ending, when, pulled, voided, can_narrow, narrowed_to, can_mark, marked, can_branch, first_child, second_child, can_stay, lemma_covers}
 use Rattle.cover_model.specs.Derivation.{at_closed, at_left, at_step, at_fork}
 use Rattle.cert_joined.specs.Covers.{Arity, ends, goes_on, splits, arity}
 use Rattle.cert_joined.specs.Laws.{LawfulIsShaped}
@@ -35,22 +35,17 @@ cond-has : (a : Arity) (t : Bool) (o : Option Left) → HasArity a o → HasArit
 cond-has a true o h = h
 cond-has a false o h = tt
 
+ending-has : (p : Problem) (s : Loosenings) (lemmas : List State) (S : State) (e : Ending) → HasArity ends (ending p s lemmas S e)
+ending-has p s lemmas S (void_by n) = cond-has ends (can_narrow p s S n) (voided (narrowed_to p s S n)) (voided-has (narrowed_to p s S n))
+ending-has p s lemmas S false_form = when-has (not (may p s S)) closed
+ending-has p s lemmas S (by_lemma i) = when-has (lemma_covers lemmas i S) closed
+
 rule-has : (p : Problem) (s : Loosenings) (lemmas : List State) (S : State) (l : Line) → HasArity (arity l) (rule p s lemmas S l)
-rule-has p s lemmas S (narrow_by (by_range j)) = cond-has goes_on (in_yes S j) (pulled S (narrowing p s S j)) (pulled-has S (narrowing p s S j))
-rule-has p s lemmas S (mark_by (unit_atom j)) = when-has (undecided S j && not (may p s (with_no S j))) (one (with_yes S j))
-rule-has p s lemmas S (mark_by (ban_atom j i)) = when-has (undecided S j && lemma_covers lemmas i (with_yes S j)) (one (with_no S j))
-rule-has p s lemmas S (end_by (void_by (by_range j))) = cond-has ends (in_yes S j) (voided (narrowing p s S j)) (voided-has (narrowing p s S j))
-rule-has p s lemmas S (narrow_by (by_off_range j)) = cond-has goes_on (can_push p s S j) (pulled S (narrowing_off p s S j)) (pulled-has S (narrowing_off p s S j))
-rule-has p s lemmas S (end_by (void_by (by_off_range j))) = cond-has ends (can_push p s S j) (voided (narrowing_off p s S j)) (voided-has (narrowing_off p s S j))
-rule-has p s lemmas S (narrow_by (by_combination ms)) = cond-has goes_on (can_combine p s S ms) (pulled S (combining p s S ms)) (pulled-has S (combining p s S ms))
-rule-has p s lemmas S (end_by (void_by (by_combination ms))) = cond-has ends (can_combine p s S ms) (voided (combining p s S ms)) (voided-has (combining p s S ms))
-rule-has p s lemmas S (end_by false_form) = when-has (not (may p s S)) closed
-rule-has p s lemmas S (end_by (by_lemma i)) = when-has (lemma_covers lemmas i S) closed
-rule-has p s lemmas S (branch_by (cut_axis axis c)) = when-has (test_axis (strictly_inside c) axis S.space) (two (with_changed S (lower_part c) axis) (with_changed S (upper_part c) axis))
-rule-has p s lemmas S (branch_by (flip_axis axis)) = when-has (test_axis is_undecided axis S.space) (two (with_changed S (keep false) axis) (with_changed S (keep true) axis))
-rule-has p s lemmas S (branch_by (case_atom j)) = when-has (undecided S j) (two (with_yes S j) (with_no S j))
-rule-has p s lemmas S (stay_by open_state) = refl
-rule-has p s lemmas S (stay_by (stuck_atom j)) = when-has (is_stuck_atom p s S j) stays
+rule-has p s lemmas S (narrow_by n) = cond-has goes_on (can_narrow p s S n) (pulled S (narrowed_to p s S n)) (pulled-has S (narrowed_to p s S n))
+rule-has p s lemmas S (end_by e) = ending-has p s lemmas S e
+rule-has p s lemmas S (mark_by m) = when-has (can_mark p s lemmas S m) (one (marked S m))
+rule-has p s lemmas S (branch_by b) = when-has (can_branch S b) (two (first_child S b) (second_child S b))
+rule-has p s lemmas S (stay_by t) = when-has (can_stay p s S t) stays
 
 pub arity_is : (p : Problem) (s : Loosenings) (lemmas : List State) (S : State) (l : Line) (x : Left) → rule p s lemmas S l ≡ Some x → arity l ≡ left_arity x
 arity_is p s lemmas S l x e = subst (λ (o : Option Left). HasArity (arity l) o) e (rule-has p s lemmas S l)

@@ -1,7 +1,7 @@
 -- What the certificates of covers say, and what joins them: one header, the lemmas of all with new numbers, and a tree that joins theirs.
 use Rattle.std.specs.Prelude.{◌≡◌, ◌≤◌, ℕ, suc, List, [], ◌∷◌, ◌++◌, Option, Some, length, map, get_or, slice_get}
 use Rattle.std.specs.List.{AllByRecursion}
-use Rattle.cover_model.specs.Rules.{Line, ban, by, narrow_by, by_range, by_off_range, by_combination, end_by, by_lemma, mark_by, unit_atom, ban_atom, branch_by, cut_axis, flip_axis, case_atom}
+use Rattle.cover_model.specs.Rules.{Line, narrow_by, end_by, mark_by, branch_by, by_lemma, ban_atom, by, ban}
 use Rattle.cover_model.specs.Derivation.{Tree, leaf, then, fork, tree_lines}
 use Rattle.cert_read.specs.CertLine.{CertLine, version, margin, delta, bound, cover, lemma, tree_word, end_word, real_interval, bool_value, yes_list, no_list}
 use Rattle.cert_read.specs.LineText.{IsSpelled, line_text, text_of_lines}
@@ -62,14 +62,9 @@ pub data Arity : Type 0 where
   ends goes_on splits : Arity
 
 abbrev pub arity : Line → Arity
-arity (narrow_by (by_range j)) = goes_on
-arity (mark_by (unit_atom j)) = goes_on
-arity (narrow_by (by_off_range j)) = goes_on
-arity (narrow_by (by_combination ms)) = goes_on
-arity (mark_by (ban_atom j i)) = goes_on
-arity (branch_by (cut_axis axis c)) = splits
-arity (branch_by (flip_axis axis)) = splits
-arity (branch_by (case_atom j)) = splits
+arity (narrow_by n) = goes_on
+arity (mark_by m) = goes_on
+arity (branch_by b) = splits
 arity l = ends
 
 -- each line of the tree has as many trees below it as it leaves states

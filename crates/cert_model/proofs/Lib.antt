@@ -12,6 +12,7 @@ mod LeastRows
 pub mod Limited
 pub mod Limits
 pub mod MarkLists
+pub mod Narrowings
 pub mod Means
 pub mod OverLeaves
 pub mod PlainGoal

@@ -1,10 +1,10 @@
 -- What a cover of a least value leaves: over each of its states the goal's enclosure is not below the bound.
 use Rattle.std.proofs.Common.{◌≡◌, ℕ, List, [], ◌∷◌, ◌++◌, Bool, true, false, not, ◌&&◌, cond, IsTrue, Option, Some, None, refl, sym, ◌∙◌, true≢false, nat_eq, nat_lt, nat_le, length}
 use Rattle.dyadic.specs.Rounding.{Dyadic}
-use Rattle.interval_model.specs.Space.{Space, strictly_inside, lower_part, upper_part, is_undecided, keep, test_axis}
+use Rattle.interval_model.specs.Space.{Space}
 use Rattle.poly_graph.specs.Problem.{Declared, real_between, any_bool, Axis, Problem, crosses}
-use Rattle.cover_model.specs.State.{State, Loosenings, root_state, in_yes, undecided, with_yes, with_no, may}
-use Rattle.cover_model.specs.Rules.{Line, Left, closed, one, two, stays, narrowing, narrowing_off, can_push, can_combine, combining, lemma_covers, with_changed, when, pulled, voided, rule, narrow_by, by_range, by_off_range, by_combination, end_by, void_by, false_form, by_lemma, mark_by, unit_atom, ban_atom, branch_by, cut_axis, flip_axis, case_atom, stay_by, open_state, stuck_atom}
+use Rattle.cover_model.specs.State.{State, Loosenings, root_state, may}
+use Rattle.cover_model.specs.Rules.{Line, narrow_by, end_by, void_by, false_form, by_lemma, mark_by, branch_by, stay_by, Left, closed, one, two, stays, can_narrow, narrowed_to, lemma_covers, can_mark, marked, can_branch, first_child, second_child, when, pulled, voided, rule}
 use Rattle.cover_line.specs.Words.{word_of}
 use Rattle.cert_read.specs.CertLine.{CertLine, version, margin, delta, bound, cover, point_word, tree_word, end_word, lemma, real_interval, real_value, bool_value, says_both, says_false, says_true, yes_list, no_list, rule_line, crossing}
 use Rattle.cert_model.specs.Due.{CertFault, RuleFails, Standing, Value, at_point, left_open, Due, version_due, margin_due, delta_due, bound_due, kind_due, next_due, axis_due, yes_due, no_due, lemma_due, root_due, tree_due, coordinate_due, end_due, nothing_due, Next, on, faulty, is_version, same_bound, names_well, after_rule, after_lemma_rule, tree_goes_on, lemma_goes_on, axis_next, is_crossed_box, coordinate_next, is_shown}
@@ -34,21 +34,13 @@ when-goes false k h = refl
 
 -- no other line does
 goes-on : (p : Problem) (s : Loosenings) (lemmas : List State) (S : State) (l : Line) → leaves_open l ≡ false → is_stay (rule p s lemmas S l) ≡ false
-goes-on p s lemmas S (narrow_by (by_range j)) h = pulled-goes (in_yes S j) S (narrowing p s S j)
-goes-on p s lemmas S (mark_by (unit_atom j)) h = when-goes (undecided S j && not (may p s (with_no S j))) (one (with_yes S j)) refl
-goes-on p s lemmas S (mark_by (ban_atom j i)) h = when-goes (undecided S j && lemma_covers lemmas i (with_yes S j)) (one (with_no S j)) refl
-goes-on p s lemmas S (end_by (void_by (by_range j))) h = voided-goes (in_yes S j) (narrowing p s S j)
-goes-on p s lemmas S (narrow_by (by_off_range j)) h = pulled-goes (can_push p s S j) S (narrowing_off p s S j)
-goes-on p s lemmas S (end_by (void_by (by_off_range j))) h = voided-goes (can_push p s S j) (narrowing_off p s S j)
-goes-on p s lemmas S (narrow_by (by_combination ms)) h = pulled-goes (can_combine p s S ms) S (combining p s S ms)
-goes-on p s lemmas S (end_by (void_by (by_combination ms))) h = voided-goes (can_combine p s S ms) (combining p s S ms)
+goes-on p s lemmas S (narrow_by n) h = pulled-goes (can_narrow p s S n) S (narrowed_to p s S n)
+goes-on p s lemmas S (end_by (void_by n)) h = voided-goes (can_narrow p s S n) (narrowed_to p s S n)
 goes-on p s lemmas S (end_by false_form) h = when-goes (not (may p s S)) closed refl
 goes-on p s lemmas S (end_by (by_lemma i)) h = when-goes (lemma_covers lemmas i S) closed refl
-goes-on p s lemmas S (branch_by (cut_axis axis c)) h = when-goes (test_axis (strictly_inside c) axis S.space) (two (with_changed S (lower_part c) axis) (with_changed S (upper_part c) axis)) refl
-goes-on p s lemmas S (branch_by (flip_axis axis)) h = when-goes (test_axis is_undecided axis S.space) (two (with_changed S (keep false) axis) (with_changed S (keep true) axis)) refl
-goes-on p s lemmas S (branch_by (case_atom j)) h = when-goes (undecided S j) (two (with_yes S j) (with_no S j)) refl
-goes-on p s lemmas S (stay_by open_state) h = absurd (true≢false h)
-goes-on p s lemmas S (stay_by (stuck_atom j)) h = absurd (true≢false h)
+goes-on p s lemmas S (mark_by m) h = when-goes (can_mark p s lemmas S m) (one (marked S m)) refl
+goes-on p s lemmas S (branch_by b) h = when-goes (can_branch S b) (two (first_child S b) (second_child S b)) refl
+goes-on p s lemmas S (stay_by t) h = absurd (true≢false h)
 
 module _ (p : Problem) (g : ℕ) (low : Option Dyadic) where
   abbrev pub IsOver : Space → Type 0

@@ -1,14 +1,16 @@
 -- What follows the rules in version 2 does so in version 3.
 use Rattle.std.proofs.Common.{◌≡◌, ℕ, zero, suc, List, [], ◌∷◌, ◌++◌, Bool, true, not, ◌&&◌, ◌||◌, cond, Option, Some, None, refl, ap, ap₂, sym, ◌∙◌, nat_le}
+use Rattle.std.specs.Cmp.{both_ways}
 use Rattle.poly_graph.specs.Marks.{Mark, is_yes}
 use Rattle.poly_graph.specs.Problem.{Problem}
 use Rattle.cover_model.specs.State.{State, Loosenings, margin_of, with_no, may, misses, root_state}
-use Rattle.interval_model.specs.Space.{widest}
-use Rattle.cover_model.specs.Rules.{Line, Left, one, two, rule, in_no_one_sided, is_combination, are_combinable, pulled, voided, narrowing, narrowing_off, combining, is_stuck_atom, narrow_by, by_off_range, by_combination, end_by, void_by, branch_by, cut_axis, flip_axis, case_atom, stay_by, stuck_atom}
+use Rattle.interval_model.specs.Space.{Space, widest}
+use Rattle.cover_model.specs.Rules.{Line, narrow_by, Narrowing, end_by, void_by, branch_by, cut_axis, flip_axis, case_atom, stay_by, stuck_atom, Left, one, two, can_narrow, narrowed_to, has_version_2, pulled, voided, narrowing, is_stuck_atom, rule}
 use Rattle.cover_model.specs.Honest.{is_honest, is_some_space, none_empty_from, none_below, not_shown, settled, all_in_yes, conjuncts, is_small, is_wide, is_middle_at}
 use Rattle.cover_model.specs.Derivation.{Tree, leaf, then, fork, Lawful, at_closed, at_left, at_step, at_fork}
 use Rattle.cert_model.specs.Due.{Standing, left_open}
 use Rattle.cert_model.specs.Written.{leaf_standing, step_standing, fork_standing, left_standing, tree_standing, LemmaTree, AreLemmaTrees, lemma_states}
+use Rattle.cert_model.proofs.Narrowings.{can_narrow_in, narrowed_in}
 use Rattle.cert_model.specs.SessionLaws.{in_version_3, WrittenEnd, written_tree, written_crossing, WrittenPart, written_cover, written_point, value_of_end, value_of_part, standing_of_end, standing_of_part, IsLawfulEnd, IsLawfulPart}
 
 -- what stands behind a line, by what stands behind the states that it leaves
@@ -21,14 +23,15 @@ fork-same (Some (two S S')) k k' j j' h g = ap₂ (λ (xs : List Standing) (ys :
 fork-same _ k k' j j' h g = refl
 
 module _ (p : Problem) (s : Loosenings) (e : s.version ≡ 2) where
-  third : nat_le 2 s.version ≡ true
-  third = ap (nat_le 2) e
+  reads : has_version_2 s ≡ true
+  reads = ap (nat_le 2) e
+
+  lawful : (S : State) (n : Narrowing) → can_narrow p (in_version_3 s) S n ≡ can_narrow p s S n
+  lawful S n = both_ways (can_narrow p (in_version_3 s) S n) (can_narrow p s S n) (can_narrow_in p (in_version_3 s) s.version S n (λ h. reads)) (can_narrow_in p s 3 S n (λ h. refl))
 
   pub rule_same : (lemmas : List State) (S : State) (l : Line) → rule p (in_version_3 s) lemmas S l ≡ rule p s lemmas S l
-  rule_same lemmas S (narrow_by (by_off_range j)) = ap (λ (t : Bool). cond (t && in_no_one_sided p S j) (pulled S (narrowing_off p s S j)) None) (sym third)
-  rule_same lemmas S (end_by (void_by (by_off_range j))) = ap (λ (t : Bool). cond (t && in_no_one_sided p S j) (voided (narrowing_off p s S j)) None) (sym third)
-  rule_same lemmas S (narrow_by (by_combination ms)) = ap (λ (t : Bool). cond (t && is_combination ms && are_combinable p S ms) (pulled S (combining p s S ms)) None) (sym third)
-  rule_same lemmas S (end_by (void_by (by_combination ms))) = ap (λ (t : Bool). cond (t && is_combination ms && are_combinable p S ms) (voided (combining p s S ms)) None) (sym third)
+  rule_same lemmas S (narrow_by n) = ap₂ (λ (t : Bool) (o : Option Space). cond t (pulled S o) None) (lawful S n) (narrowed_in p s 3 S n)
+  rule_same lemmas S (end_by (void_by n)) = ap₂ (λ (t : Bool) (o : Option Space). cond t (voided o) None) (lawful S n) (narrowed_in p s 3 S n)
   rule_same lemmas S _ = refl
 
   module _ (lemmas : List State) where

@@ -8,7 +8,7 @@ use Rattle.script_model.specs.Symbol.{is_simple_symbol}
 use Rattle.interval_model.specs.Space.{Domain, real_domain, bool_domain, Space}
 use Rattle.poly_graph.specs.Problem.{Axis, Problem}
 use Rattle.cover_model.specs.State.{State, Loosenings}
-use Rattle.cover_model.specs.Rules.{Line, stuck, stay_by, open_state, stuck_atom}
+use Rattle.cover_model.specs.Rules.{Line, stay_by, open_state, stuck_atom}
 use Rattle.cert_model.specs.Due.{CertFault, BadHeader, BadNumber, RuleFails, KeepFails, OverFails, Missing, Extra, WrongBound, NotShown, BadLine, LineTooLong, TooLong, Standing, Value, at_point, left_open}
 use Rattle.cert_model.specs.Accepted.{Verdict, accepted, refused}
 use Rattle.cert_model.specs.Least.{Least, GoalValue, plain, least, GoalVerdict, upper_at}

@@ -15,7 +15,7 @@ use Rattle.poly_graph.specs.Problem.{Problem}
 use Rattle.cover_line.specs.Words.{word_of}
 use Rattle.cert_read.specs.CertLine.{CertLine, version, lower, goal, cover, point_word, rule_line, over, Parsed}
 use Rattle.cover_model.specs.State.{Loosenings, atom_enclosure, root_state}
-use Rattle.cover_model.specs.Rules.{Line, open_line, stuck, stay_by, open_state, stuck_atom}
+use Rattle.cover_model.specs.Rules.{Line, open_line, stay_by}
 use Rattle.cert_model.specs.Due.{Standing, CertFault, BadHeader, RuleFails, OverFails, Missing, Extra, Value, at_point, left_open, Due, version_due, margin_due, kind_due, root_due, tree_due, nothing_due, NextOf, Next, on, faulty, names_well, is_crossed_box}
 use Rattle.cert_model.specs.Limited.{is_limit, limited}
 use Rattle.cert_model.specs.Accepted.{next, ruled_line, parsed_by, CourseOf, course_by, VerdictOf, accepted, refused, at_end, ended_by, most_bytes, verdict_of}
@@ -116,8 +116,7 @@ over_line p b g low bits d (Some space) = cond (is_over p g low space) (in_cover
 
 -- a line that leaves its own state open or stuck
 abbrev pub leaves_open : Line → Bool
-leaves_open (stay_by open_state) = true
-leaves_open (stay_by (stuck_atom j)) = true
+leaves_open (stay_by t) = true
 leaves_open l = false
 
 -- no leaf of the main tree is left open or stuck

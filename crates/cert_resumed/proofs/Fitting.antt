@@ -17,9 +17,9 @@ use Rattle.cover_model.specs.Space.{enclosure, range}
 use Rattle.cover_model.specs.OffRange.{off_range}
 use Rattle.cover_model.specs.Narrowed.{from_parents, own, narrowed_from, narrowed, some_empty, set_axis, with_axes, enclosures, narrowed_by}
 use Rattle.cover_model.specs.Combination.{Multipliers, Part, Expansion, part_range, tightened, with_axis, with_intervals, range_of, combined_about, allowed_range, expansion, marked_range}
-use Rattle.cover_model.specs.State.{State, Loosenings, margin_of, with_mark, with_yes, with_no, undecided, in_yes, may}
+use Rattle.cover_model.specs.State.{State, Loosenings, margin_of, with_mark, may}
 use Rattle.cover_model.specs.Fits.{FitsAxis, FitsAxes, FitsProblem}
-use Rattle.cover_model.specs.Rules.{Line, by, Left, closed, one, two, stays, rule, when, pulled, voided, narrowing, narrowing_off, combining, can_push, can_combine, lemma_covers, with_changed, is_stuck_atom, narrow_by, by_range, by_off_range, by_combination, end_by, void_by, false_form, by_lemma, mark_by, unit_atom, ban_atom, branch_by, cut_axis, flip_axis, case_atom, stay_by, open_state, stuck_atom}
+use Rattle.cover_model.specs.Rules.{Line, narrow_by, end_by, mark_by, branch_by, stay_by, Narrowing, by_range, by_off_range, by_combination, Ending, void_by, false_form, by_lemma, Marking, unit_atom, ban_atom, Branching, cut_axis, flip_axis, case_atom, Left, closed, one, two, stays, rule, ending, when, pulled, voided, combining, can_narrow, narrowed_to, can_mark, marked, can_branch, first_child, second_child, can_stay, lemma_covers, with_changed}
 use Rattle.cert_resumed.proofs.Parses.{all_append}
 use Rattle.cover_model.specs.Derivation.{Tree, Lawful, at_closed, at_left, at_step, at_fork}
 
@@ -242,24 +242,31 @@ module _ (p : Problem) (g : IsProblem p) (s : Loosenings) (lemmas : List State) 
     combine-fits ms = pulled-fit (combining p s S ms)
         (λ narrow e. subst (FitsIfSome p.axes S.space f.axes) e (combined-fits p.axes S.space f.axes p (marked_range p (margin_of s) S.marks) (middle S.space) ms))
 
+    narrowing-fits : (n : Narrowing) → LeftFit (pulled S (narrowed_to p s S n))
+    narrowing-fits (by_range j) = narrow-fits (atom_at p j).0 (range (margin_of s) (atom_at p j).1)
+    narrowing-fits (by_off_range j) = narrow-fits (atom_at p j).0 (off_range (margin_of s) (atom_at p j).1)
+    narrowing-fits (by_combination ms) = combine-fits ms
+
+    marking-fits : (m : Marking) → FitsProblem p (marked S m)
+    marking-fits (unit_atom j) = mark-fits j marked_yes
+    marking-fits (ban_atom j i) = mark-fits j marked_no
+
+    branching-fits : (b : Branching) → IsTrue (can_branch S b) → FitsProblem p (first_child S b) × FitsProblem p (second_child S b)
+    branching-fits (cut_axis axis c) e = (change-fits (lower_part c) (strictly_inside c) (low-fits c) axis e, change-fits (upper_part c) (strictly_inside c) (high-fits c) axis e)
+    branching-fits (flip_axis axis) e = (change-fits (keep false) is_undecided (keep-fits false) axis e, change-fits (keep true) is_undecided (keep-fits true) axis e)
+    branching-fits (case_atom j) e = (mark-fits j marked_yes, mark-fits j marked_no)
+
+    ending-fits : (e : Ending) → LeftFit (ending p s lemmas S e)
+    ending-fits (void_by n) = by-cond (can_narrow p s S n) (voided (narrowed_to p s S n)) (voided-fit (narrowed_to p s S n))
+    ending-fits false_form = by-when (not (may p s S)) closed (λ e. tt)
+    ending-fits (by_lemma i) = by-when (lemma_covers lemmas i S) closed (λ e. tt)
+
     rule-fits : (l : Line) → LeftFit (rule p s lemmas S l)
-    rule-fits (narrow_by (by_range j)) = by-cond (in_yes S j) (pulled S (narrowing p s S j)) (narrow-fits (atom_at p j).0 (range (margin_of s) (atom_at p j).1))
-    rule-fits (mark_by (unit_atom j)) = by-when (undecided S j && not (may p s (with_no S j))) (one (with_yes S j)) (λ e. mark-fits j marked_yes)
-    rule-fits (mark_by (ban_atom j i)) = by-when (undecided S j && lemma_covers lemmas i (with_yes S j)) (one (with_no S j)) (λ e. mark-fits j marked_no)
-    rule-fits (end_by (void_by (by_range j))) = by-cond (in_yes S j) (voided (narrowing p s S j)) (voided-fit (narrowing p s S j))
-    rule-fits (narrow_by (by_off_range j)) = by-cond (can_push p s S j) (pulled S (narrowing_off p s S j)) (narrow-fits (atom_at p j).0 (off_range (margin_of s) (atom_at p j).1))
-    rule-fits (end_by (void_by (by_off_range j))) = by-cond (can_push p s S j) (voided (narrowing_off p s S j)) (voided-fit (narrowing_off p s S j))
-    rule-fits (narrow_by (by_combination ms)) = by-cond (can_combine p s S ms) (pulled S (combining p s S ms)) (combine-fits ms)
-    rule-fits (end_by (void_by (by_combination ms))) = by-cond (can_combine p s S ms) (voided (combining p s S ms)) (voided-fit (combining p s S ms))
-    rule-fits (end_by false_form) = by-when (not (may p s S)) closed (λ e. tt)
-    rule-fits (end_by (by_lemma i)) = by-when (lemma_covers lemmas i S) closed (λ e. tt)
-    rule-fits (branch_by (cut_axis axis c)) = by-when (test_axis (strictly_inside c) axis S.space) (two (with_changed S (lower_part c) axis) (with_changed S (upper_part c) axis))
-        (λ e. (change-fits (lower_part c) (strictly_inside c) (low-fits c) axis e, change-fits (upper_part c) (strictly_inside c) (high-fits c) axis e))
-    rule-fits (branch_by (flip_axis axis)) = by-when (test_axis is_undecided axis S.space) (two (with_changed S (keep false) axis) (with_changed S (keep true) axis))
-        (λ e. (change-fits (keep false) is_undecided (keep-fits false) axis e, change-fits (keep true) is_undecided (keep-fits true) axis e))
-    rule-fits (branch_by (case_atom j)) = by-when (undecided S j) (two (with_yes S j) (with_no S j)) (λ e. (mark-fits j marked_yes, mark-fits j marked_no))
-    rule-fits (stay_by open_state) = tt
-    rule-fits (stay_by (stuck_atom j)) = by-when (is_stuck_atom p s S j) stays (λ e. tt)
+    rule-fits (narrow_by n) = by-cond (can_narrow p s S n) (pulled S (narrowed_to p s S n)) (narrowing-fits n)
+    rule-fits (end_by e) = ending-fits e
+    rule-fits (mark_by m) = by-when (can_mark p s lemmas S m) (one (marked S m)) (λ e. marking-fits m)
+    rule-fits (branch_by b) = by-when (can_branch S b) (two (first_child S b) (second_child S b)) (branching-fits b)
+    rule-fits (stay_by t) = by-when (can_stay p s S t) stays (λ e. tt)
 
   -- so do the states that a lawful tree leaves
   abbrev AllFit : List State → Type 0

@@ -4,9 +4,9 @@ use Rattle.std.specs.List.{AllByRecursion}
 use Rattle.std.proofs.lemmas.List.Elements.{All-nil, All-cons, All-head, All-tail, All-append}
 use Rattle.std.proofs.lemmas.List.Sums.{sum_by-cons, sum_by-append}
 use Rattle.poly_graph.specs.Problem.{Problem}
-use Rattle.interval_model.specs.Space.{Space, strictly_inside, lower_part, upper_part, is_undecided, keep, test_axis}
-use Rattle.cover_model.specs.State.{State, Loosenings, in_yes, undecided, with_yes, with_no, may}
-use Rattle.cover_model.specs.Rules.{Line, by, Left, closed, one, two, stays, rule, when, pulled, voided, narrowing, narrowing_off, combining, can_push, can_combine, lemma_covers, with_changed, is_stuck_atom, narrow_by, by_range, by_off_range, by_combination, end_by, void_by, false_form, by_lemma, mark_by, unit_atom, ban_atom, branch_by, cut_axis, flip_axis, case_atom, stay_by, open_state, stuck_atom}
+use Rattle.interval_model.specs.Space.{Space}
+use Rattle.cover_model.specs.State.{State, Loosenings, may}
+use Rattle.cover_model.specs.Rules.{Line, narrow_by, end_by, mark_by, branch_by, stay_by, Ending, void_by, false_form, by_lemma, Left, closed, one, two, stays, rule, ending, when, pulled, voided, can_narrow, narrowed_to, can_mark, marked, can_branch, first_child, second_child, can_stay, lemma_covers}
 use Rattle.cover_model.specs.Honest.{is_honest, branch_count}
 use Rattle.cover_model.specs.Derivation.{Tree, leaf, then, fork, tree_lines, Lawful, at_closed, at_left, at_step, at_fork}
 use Rattle.cert_model.specs.Due.{Standing, names_well}
@@ -43,22 +43,17 @@ cond-goes : (t : Bool) (o : Option Left) → Stays false o → Stays false (cond
 cond-goes true o h = h
 cond-goes false o h = tt
 
+ending-goes : (p : Problem) (s : Loosenings) (lemmas : List State) (S : State) (e : Ending) → Stays false (ending p s lemmas S e)
+ending-goes p s lemmas S (void_by n) = cond-goes (can_narrow p s S n) (voided (narrowed_to p s S n)) (voided-goes (narrowed_to p s S n))
+ending-goes p s lemmas S false_form = when-stays (not (may p s S)) closed
+ending-goes p s lemmas S (by_lemma i) = when-stays (lemma_covers lemmas i S) closed
+
 rule-stays : (p : Problem) (s : Loosenings) (lemmas : List State) (S : State) (l : Line) → Stays (is_leaving l) (rule p s lemmas S l)
-rule-stays p s lemmas S (narrow_by (by_range j)) = cond-goes (in_yes S j) (pulled S (narrowing p s S j)) (pulled-goes S (narrowing p s S j))
-rule-stays p s lemmas S (mark_by (unit_atom j)) = when-stays (undecided S j && not (may p s (with_no S j))) (one (with_yes S j))
-rule-stays p s lemmas S (mark_by (ban_atom j i)) = when-stays (undecided S j && lemma_covers lemmas i (with_yes S j)) (one (with_no S j))
-rule-stays p s lemmas S (end_by (void_by (by_range j))) = cond-goes (in_yes S j) (voided (narrowing p s S j)) (voided-goes (narrowing p s S j))
-rule-stays p s lemmas S (narrow_by (by_off_range j)) = cond-goes (can_push p s S j) (pulled S (narrowing_off p s S j)) (pulled-goes S (narrowing_off p s S j))
-rule-stays p s lemmas S (end_by (void_by (by_off_range j))) = cond-goes (can_push p s S j) (voided (narrowing_off p s S j)) (voided-goes (narrowing_off p s S j))
-rule-stays p s lemmas S (narrow_by (by_combination ms)) = cond-goes (can_combine p s S ms) (pulled S (combining p s S ms)) (pulled-goes S (combining p s S ms))
-rule-stays p s lemmas S (end_by (void_by (by_combination ms))) = cond-goes (can_combine p s S ms) (voided (combining p s S ms)) (voided-goes (combining p s S ms))
-rule-stays p s lemmas S (end_by false_form) = when-stays (not (may p s S)) closed
-rule-stays p s lemmas S (end_by (by_lemma i)) = when-stays (lemma_covers lemmas i S) closed
-rule-stays p s lemmas S (branch_by (cut_axis axis c)) = when-stays (test_axis (strictly_inside c) axis S.space) (two (with_changed S (lower_part c) axis) (with_changed S (upper_part c) axis))
-rule-stays p s lemmas S (branch_by (flip_axis axis)) = when-stays (test_axis is_undecided axis S.space) (two (with_changed S (keep false) axis) (with_changed S (keep true) axis))
-rule-stays p s lemmas S (branch_by (case_atom j)) = when-stays (undecided S j) (two (with_yes S j) (with_no S j))
-rule-stays p s lemmas S (stay_by open_state) = refl
-rule-stays p s lemmas S (stay_by (stuck_atom j)) = when-stays (is_stuck_atom p s S j) stays
+rule-stays p s lemmas S (narrow_by n) = cond-goes (can_narrow p s S n) (pulled S (narrowed_to p s S n)) (pulled-goes S (narrowed_to p s S n))
+rule-stays p s lemmas S (end_by e) = ending-goes p s lemmas S e
+rule-stays p s lemmas S (mark_by m) = when-stays (can_mark p s lemmas S m) (one (marked S m))
+rule-stays p s lemmas S (branch_by b) = when-stays (can_branch S b) (two (first_child S b) (second_child S b))
+rule-stays p s lemmas S (stay_by t) = when-stays (can_stay p s S t) stays
 
 pub leaves_where_stays : (p : Problem) (s : Loosenings) (lemmas : List State) (S : State) (l : Line) (x : Left) → rule p s lemmas S l ≡ Some x → is_leaving l ≡ is_stays x
 leaves_where_stays p s lemmas S l x e = subst (λ (o : Option Left). Stays (is_leaving l) o) e (rule-stays p s lemmas S l)
@@ -113,22 +108,12 @@ honest-same : (s : Loosenings) (p : Problem) (w : ℕ) (S : State) (l : Line) �
 honest-same s p w S l = sym (honest_in_version_3 (in_version_2 s) p w S l) ∙ honest_in_version_3 s p w S l
 
 -- no line that leaves its state is a branch
-no-branch : (l : Line) → is_leaving l ≡ true → branch_count l ≡ 0
-no-branch (stay_by open_state) h = refl
-no-branch (stay_by (stuck_atom j)) h = refl
-no-branch (narrow_by (by_range j)) h = cc
-no-branch (mark_by (unit_atom j)) h = cc
-no-branch (mark_by (ban_atom j i)) h = cc
-no-branch (end_by (void_by (by_range j))) h = cc
-no-branch (narrow_by (by_off_range j)) h = cc
-no-branch (end_by (void_by (by_off_range j))) h = cc
-no-branch (narrow_by (by_combination ms)) h = cc
-no-branch (end_by (void_by (by_combination ms))) h = cc
-no-branch (end_by false_form) h = cc
-no-branch (end_by (by_lemma i)) h = cc
-no-branch (branch_by (cut_axis axis c)) h = cc
-no-branch (branch_by (flip_axis axis)) h = cc
-no-branch (branch_by (case_atom j)) h = cc
+pub leaving_no_branch : (l : Line) → is_leaving l ≡ true → branch_count l ≡ 0
+leaving_no_branch (stay_by t) h = refl
+leaving_no_branch (branch_by b) h = cc
+leaving_no_branch (narrow_by n) h = refl
+leaving_no_branch (end_by e) h = refl
+leaving_no_branch (mark_by m) h = refl
 
 -- what a rule leaves over the old lemmas it leaves over the new ones under version 2
 module _ (p : Problem) (s : Loosenings) (old new : List State) (keeps : (S : State) (l : Line) (x : Left) → rule p s old S l ≡ Some x → rule p (in_version_2 s) new S l ≡ Some x) where
@@ -175,7 +160,7 @@ module _ (p : Problem) (s : Loosenings) (old new : List State) (keeps : (S : Sta
   at-left S l e (t ∷ u ∷ ts) h = absurd h.1
   at-left S l e (t ∷ []) h =
       let leaves : is_leaving l ≡ true = leaves_where_stays p s old S l stays e in
-      let none : branch_count l ≡ 0 = no-branch l leaves in
+      let none : branch_count l ≡ 0 = leaving_no_branch l leaves in
       record {
         tree = t;
         rest = h.0.left;

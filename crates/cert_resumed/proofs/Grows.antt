@@ -1,10 +1,11 @@
 -- More lemmas, and version 2, change nothing of what a rule leaves.
-use Rattle.std.proofs.Common.{◌≡◌, ℕ, zero, suc, List, [], ◌∷◌, ◌++◌, Bool, true, false, ◌&&◌, cond, Option, Some, None, IsTrue, refl, ap, ap₂, sym, ◌∙◌, subst}
+use Rattle.std.proofs.Common.{◌≡◌, ℕ, zero, suc, List, [], ◌∷◌, ◌++◌, Bool, true, false, ◌&&◌, cond, Option, Some, None, IsTrue, true≢false, refl, ap, ap₂, sym, ◌∙◌, subst}
 use Rattle.poly_graph.specs.Problem.{Problem}
-use Rattle.cover_model.specs.State.{State, Loosenings, undecided, with_yes, with_no}
-use Rattle.cover_model.specs.Rules.{Line, pull, unit, void, push, void_no, combine, void_combine, ban, make_false, by, cut, flip, case, open_line, stuck, Left, closed, one, two, stays, rule, when, lemma_covers, has_version_2, in_no_one_sided, is_combination, are_combinable, pulled, voided, narrowing_off, combining, narrow_by, by_range, by_off_range, by_combination, end_by, void_by, false_form, by_lemma, mark_by, unit_atom, ban_atom, branch_by, cut_axis, flip_axis, case_atom, stay_by, open_state, stuck_atom}
+use Rattle.cover_model.specs.State.{State, Loosenings, undecided, with_yes}
+use Rattle.cover_model.specs.Rules.{Line, narrow_by, end_by, mark_by, branch_by, stay_by, void_by, false_form, by_lemma, Marking, unit_atom, ban_atom, open_state, stuck_atom, unit, ban, make_false, by, open_line, stuck, Left, closed, one, two, stays, rule, when, pulled, voided, can_narrow, narrowed_to, can_mark, marked, lemma_covers}
 use Rattle.cover_model.specs.Derivation.{Tree, Lawful, at_closed, at_left, at_step, at_fork}
 use Rattle.cert_model.specs.Due.{Standing}
+use Rattle.cert_model.proofs.Narrowings.{can_narrow_in, narrowed_in}
 use Rattle.cert_model.specs.Written.{leaf_standing, step_standing, fork_standing, left_standing, tree_standing}
 use Rattle.cert_resumed.specs.Resumed.{in_version_2}
 
@@ -20,15 +21,9 @@ same-left (Some x) = refl
 along : (o u : Option Left) → SameIfSome o u → (x : Left) → o ≡ Some x → u ≡ Some x
 along o u h x e = subst (λ (w : Option Left). SameIfSome w u) e h
 
--- ---- version 2
-
-gated : (t u : Bool) (o : Option Left) → SameIfSome (cond (t && u) o None) (cond (true && u) o None)
-gated true u o = same-left (cond (true && u) o None)
-gated false u o = tt
-
-gated-twice : (t u w : Bool) (o : Option Left) → SameIfSome (cond (t && u && w) o None) (cond (true && u && w) o None)
-gated-twice true u w o = same-left (cond (true && u && w) o None)
-gated-twice false u w o = tt
+cond-more : (t u : Bool) (o w : Option Left) → (IsTrue t → IsTrue u) → w ≡ o → SameIfSome (cond t o None) (cond u w None)
+cond-more true u o w h e = subst (λ (x : Option Left). SameIfSome o x) (sym e ∙ ap (λ (b : Bool). cond b w None) (sym (h refl))) (same-left o)
+cond-more false u o w h e = tt
 
 -- ---- more lemmas
 
@@ -41,44 +36,37 @@ when-more : (t u : Bool) (x : Left) → (IsTrue t → IsTrue u) → SameIfSome (
 when-more true u x h = ap (λ (w : Bool). when w x) (h refl)
 when-more false u x h = tt
 
-both-more : (a t u : Bool) (x : Left) → (IsTrue t → IsTrue u) → SameIfSome (when (a && t) x) (when (a && u) x)
-both-more true t u x h = when-more t u x h
-both-more false t u x h = tt
+both-more : (a t u : Bool) → (IsTrue t → IsTrue u) → IsTrue (a && t) → IsTrue (a && u)
+both-more true t u h k = h k
+both-more false t u h k = absurd (true≢false (sym k))
 
 module _ (p : Problem) (s : Loosenings) where
   version-same : (lemmas : List State) (S : State) (l : Line) → SameIfSome (rule p s lemmas S l) (rule p (in_version_2 s) lemmas S l)
-  version-same lemmas S (narrow_by (by_off_range j)) = gated (has_version_2 s) (in_no_one_sided p S j) (pulled S (narrowing_off p s S j))
-  version-same lemmas S (end_by (void_by (by_off_range j))) = gated (has_version_2 s) (in_no_one_sided p S j) (voided (narrowing_off p s S j))
-  version-same lemmas S (narrow_by (by_combination ms)) = gated-twice (has_version_2 s) (is_combination ms) (are_combinable p S ms) (pulled S (combining p s S ms))
-  version-same lemmas S (end_by (void_by (by_combination ms))) = gated-twice (has_version_2 s) (is_combination ms) (are_combinable p S ms) (voided (combining p s S ms))
-  version-same lemmas S (narrow_by (by_range j)) = same-left (rule p s lemmas S (pull j))
-  version-same lemmas S (mark_by (unit_atom j)) = same-left (rule p s lemmas S (unit j))
-  version-same lemmas S (end_by (void_by (by_range j))) = same-left (rule p s lemmas S (void j))
-  version-same lemmas S (mark_by (ban_atom j i)) = same-left (rule p s lemmas S (ban j i))
+  version-same lemmas S (narrow_by n) = cond-more (can_narrow p s S n) (can_narrow p (in_version_2 s) S n) (pulled S (narrowed_to p s S n)) (pulled S (narrowed_to p (in_version_2 s) S n))
+      (can_narrow_in p s 2 S n (λ h. refl)) (ap (pulled S) (narrowed_in p s 2 S n))
+  version-same lemmas S (end_by (void_by n)) = cond-more (can_narrow p s S n) (can_narrow p (in_version_2 s) S n) (voided (narrowed_to p s S n)) (voided (narrowed_to p (in_version_2 s) S n))
+      (can_narrow_in p s 2 S n (λ h. refl)) (ap voided (narrowed_in p s 2 S n))
   version-same lemmas S (end_by false_form) = same-left (rule p s lemmas S make_false)
   version-same lemmas S (end_by (by_lemma i)) = same-left (rule p s lemmas S (by i))
-  version-same lemmas S (branch_by (cut_axis axis c)) = same-left (rule p s lemmas S (cut axis c))
-  version-same lemmas S (branch_by (flip_axis axis)) = same-left (rule p s lemmas S (flip axis))
-  version-same lemmas S (branch_by (case_atom j)) = same-left (rule p s lemmas S (case j))
+  version-same lemmas S (mark_by (unit_atom j)) = same-left (rule p s lemmas S (unit j))
+  version-same lemmas S (mark_by (ban_atom j i)) = same-left (rule p s lemmas S (ban j i))
+  version-same lemmas S (branch_by b) = same-left (rule p s lemmas S (branch_by b))
   version-same lemmas S (stay_by open_state) = same-left (rule p s lemmas S open_line)
   version-same lemmas S (stay_by (stuck_atom j)) = same-left (rule p s lemmas S (stuck j))
 
+  marks-more : (lemmas more : List State) (S : State) (m : Marking) → IsTrue (can_mark p s lemmas S m) → IsTrue (can_mark p s (lemmas ++ more) S m)
+  marks-more lemmas more S (unit_atom j) h = h
+  marks-more lemmas more S (ban_atom j i) h =
+      both-more (undecided S j) (lemma_covers lemmas i (with_yes S j)) (lemma_covers (lemmas ++ more) i (with_yes S j)) (covers-more lemmas more i (with_yes S j)) h
+
   lemmas-same : (lemmas more : List State) (S : State) (l : Line) → SameIfSome (rule p s lemmas S l) (rule p s (lemmas ++ more) S l)
-  lemmas-same lemmas more S (mark_by (ban_atom j i)) = both-more (undecided S j) (lemma_covers lemmas i (with_yes S j)) (lemma_covers (lemmas ++ more) i (with_yes S j)) (one (with_no S j)) (covers-more lemmas more i (with_yes S j))
+  lemmas-same lemmas more S (mark_by m) = when-more (can_mark p s lemmas S m) (can_mark p s (lemmas ++ more) S m) (one (marked S m)) (marks-more lemmas more S m)
   lemmas-same lemmas more S (end_by (by_lemma i)) = when-more (lemma_covers lemmas i S) (lemma_covers (lemmas ++ more) i S) closed (covers-more lemmas more i S)
-  lemmas-same lemmas more S (narrow_by (by_off_range j)) = same-left (rule p s lemmas S (push j))
-  lemmas-same lemmas more S (end_by (void_by (by_off_range j))) = same-left (rule p s lemmas S (void_no j))
-  lemmas-same lemmas more S (narrow_by (by_combination ms)) = same-left (rule p s lemmas S (combine ms))
-  lemmas-same lemmas more S (end_by (void_by (by_combination ms))) = same-left (rule p s lemmas S (void_combine ms))
-  lemmas-same lemmas more S (narrow_by (by_range j)) = same-left (rule p s lemmas S (pull j))
-  lemmas-same lemmas more S (mark_by (unit_atom j)) = same-left (rule p s lemmas S (unit j))
-  lemmas-same lemmas more S (end_by (void_by (by_range j))) = same-left (rule p s lemmas S (void j))
+  lemmas-same lemmas more S (end_by (void_by n)) = same-left (rule p s lemmas S (end_by (void_by n)))
   lemmas-same lemmas more S (end_by false_form) = same-left (rule p s lemmas S make_false)
-  lemmas-same lemmas more S (branch_by (cut_axis axis c)) = same-left (rule p s lemmas S (cut axis c))
-  lemmas-same lemmas more S (branch_by (flip_axis axis)) = same-left (rule p s lemmas S (flip axis))
-  lemmas-same lemmas more S (branch_by (case_atom j)) = same-left (rule p s lemmas S (case j))
-  lemmas-same lemmas more S (stay_by open_state) = same-left (rule p s lemmas S open_line)
-  lemmas-same lemmas more S (stay_by (stuck_atom j)) = same-left (rule p s lemmas S (stuck j))
+  lemmas-same lemmas more S (narrow_by n) = same-left (rule p s lemmas S (narrow_by n))
+  lemmas-same lemmas more S (branch_by b) = same-left (rule p s lemmas S (branch_by b))
+  lemmas-same lemmas more S (stay_by t) = same-left (rule p s lemmas S (stay_by t))
 
   -- what a rule leaves it leaves with more lemmas, and so under version 2
   pub rule_with_more : (lemmas more : List State) (S : State) (l : Line) (x : Left) → rule p s lemmas S l ≡ Some x → rule p s (lemmas ++ more) S l ≡ Some x

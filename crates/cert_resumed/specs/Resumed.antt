@@ -16,8 +16,7 @@ use Rattle.cert_model.specs.Written.{rule_lines, NamesWell, left_standing, IsHon
 
 -- the line leaves its state open or stuck
 abbrev pub is_leaving : Line → Bool
-is_leaving (stay_by open_state) = true
-is_leaving (stay_by (stuck_atom j)) = true
+is_leaving (stay_by t) = true
 is_leaving l = false
 
 -- the first lines are the second ones, but that some which leave their states are replaced by the lines of trees

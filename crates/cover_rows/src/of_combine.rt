@@ -10,7 +10,7 @@ use crate::patches::{line_of, state_of};
 use crate::points::is_space;
 use cert_read::Line;
 use combine::{Combination, combine};
-use cover_line::{CombinationRule, Rule};
+use cover_line::{Narrowing, Rule};
 use cover_rule::State;
 use dyadic::Dy;
 use hc4::fill;
@@ -159,7 +159,7 @@ fn are_left_in(alloc: Global, problem: &Problem, row: &Row) -> bool {
         state_of(alloc, problem.atoms().len(), row.state),
         line_of(alloc, row.line),
     ) {
-        (Some(state), Some(Line::Rule(Rule::Combination(CombinationRule::Combine, pairs)))) => {
+        (Some(state), Some(Line::Rule(Rule::Narrow(Narrowing::Combine(pairs))))) => {
             both_leave(alloc, problem, &state, &pairs, row)
         }
         _ => false,

@@ -9,7 +9,7 @@ ghost use Rattle.cover_data.specs.Views.{kept_of};
 use crate::made::problem;
 use cert_read::{BoolSet, Line, LineReader};
 use cover_book::Book;
-use cover_line::{AtomRule, CombinationRule, Rule};
+use cover_line::{Branching, Ending, Marking, Narrowing, Rule, Staying};
 use cover_rule::{End, KeptPatch, Lemma, Options, Patch, PatchRefusal, State, Step};
 use ival::{Domain, Range, Space, Truths};
 use poly_graph::{Lits, Mark};
@@ -154,13 +154,13 @@ fn answer_at_atom(book: &Book, patch: &mut Patch, line: &Line) -> Option<Answer>
     ensures margins { patch.new.margins ≡ patch.old.margins }
 {
     match line {
-        Line::Rule(Rule::Atom(AtomRule::Pull, j)) if is_atom(book, *j) => Some(patch.pull(*j)),
-        Line::Rule(Rule::Atom(AtomRule::Unit, j)) if is_atom(book, *j) => Some(patch.unit(*j)),
-        Line::Rule(Rule::Atom(AtomRule::Void, j)) if is_atom(book, *j) => Some(patch.void(*j)),
-        Line::Rule(Rule::Atom(AtomRule::Push, j)) if is_atom(book, *j) => Some(patch.push(*j)),
-        Line::Rule(Rule::Atom(AtomRule::VoidNo, j)) if is_atom(book, *j) => Some(patch.void_no(*j)),
-        Line::Rule(Rule::Atom(AtomRule::Case, j)) if is_atom(book, *j) => Some(patch.case(*j)),
-        Line::Rule(Rule::Atom(AtomRule::Stuck, j)) if is_atom(book, *j) => Some(patch.stuck(*j)),
+        Line::Rule(Rule::Narrow(Narrowing::Pull(j))) if is_atom(book, *j) => Some(patch.pull(*j)),
+        Line::Rule(Rule::Mark(Marking::Unit(j))) if is_atom(book, *j) => Some(patch.unit(*j)),
+        Line::Rule(Rule::End(Ending::Void(Narrowing::Pull(j)))) if is_atom(book, *j) => Some(patch.void(*j)),
+        Line::Rule(Rule::Narrow(Narrowing::Push(j))) if is_atom(book, *j) => Some(patch.push(*j)),
+        Line::Rule(Rule::End(Ending::Void(Narrowing::Push(j)))) if is_atom(book, *j) => Some(patch.void_no(*j)),
+        Line::Rule(Rule::Branch(Branching::Case(j))) if is_atom(book, *j) => Some(patch.case(*j)),
+        Line::Rule(Rule::Stay(Staying::Stuck(j))) if is_atom(book, *j) => Some(patch.stuck(*j)),
         _ => None,
     }
 }
@@ -175,10 +175,10 @@ fn answer_by(book: &Book, lemma: &Lemma, patch: &mut Patch, line: &Line) -> Opti
     ensures margins { patch.new.margins ≡ patch.old.margins }
 {
     match line {
-        Line::Rule(Rule::Ban(j, id)) if *id == lemma.id() && is_atom(book, *j) => Some(patch.ban(
+        Line::Rule(Rule::Mark(Marking::Ban(j, id))) if *id == lemma.id() && is_atom(book, *j) => Some(patch.ban(
             *j, lemma,
         )),
-        Line::Rule(Rule::By(id)) if *id == lemma.id() => Some(patch.by(lemma)),
+        Line::Rule(Rule::End(Ending::By(id))) if *id == lemma.id() => Some(patch.by(lemma)),
         _ => None,
     }
 }
@@ -194,16 +194,16 @@ fn answer(book: &Book, lemma: Option<&Lemma>, patch: &mut Patch, line: &Line) ->
     ensures margins { patch.new.margins ≡ patch.old.margins }
 {
     match line {
-        Line::Rule(Rule::False) => Some(patch.make_false()),
-        Line::Rule(Rule::Cut(_, _)) => Some(patch.cut()),
-        Line::Rule(Rule::Flip(axis)) if is_axis(book, *axis) => Some(patch.flip(*axis)),
-        Line::Rule(Rule::Combination(CombinationRule::Combine, pairs)) => Some(patch.combine(
+        Line::Rule(Rule::End(Ending::False)) => Some(patch.make_false()),
+        Line::Rule(Rule::Branch(Branching::Cut(_, _))) => Some(patch.cut()),
+        Line::Rule(Rule::Branch(Branching::Flip(axis))) if is_axis(book, *axis) => Some(patch.flip(*axis)),
+        Line::Rule(Rule::Narrow(Narrowing::Combine(pairs))) => Some(patch.combine(
             pairs,
         )),
-        Line::Rule(Rule::Combination(CombinationRule::VoidCombine, pairs)) => Some(
+        Line::Rule(Rule::End(Ending::Void(Narrowing::Combine(pairs)))) => Some(
             patch.void_combine(pairs),
         ),
-        Line::Rule(Rule::Ban(_, _)) | Line::Rule(Rule::By(_)) => answer_by(
+        Line::Rule(Rule::Mark(Marking::Ban(_, _))) | Line::Rule(Rule::End(Ending::By(_))) => answer_by(
             book, lemma?, patch, line,
         ),
         _ => answer_at_atom(book, patch, line),
@@ -362,11 +362,11 @@ pub(crate) fn leaves(alloc: Global, patch: Patch, lower: &[&str], upper: &[&str]
 // Whether the line says this step.
 fn is_step(line: &Line, step: &Step) -> bool {
     match (line, step) {
-        (Line::Rule(Rule::Atom(AtomRule::Pull, j)), Step::Pull(k)) => *j == *k,
-        (Line::Rule(Rule::Atom(AtomRule::Unit, j)), Step::Unit(k)) => *j == *k,
-        (Line::Rule(Rule::Ban(j, id)), Step::Ban(k, quoted)) => *j == *k && *id == *quoted,
-        (Line::Rule(Rule::Atom(AtomRule::Push, j)), Step::Push(k)) => *j == *k,
-        (Line::Rule(Rule::Combination(CombinationRule::Combine, pairs)), Step::Combine(made)) =>
+        (Line::Rule(Rule::Narrow(Narrowing::Pull(j))), Step::Pull(k)) => *j == *k,
+        (Line::Rule(Rule::Mark(Marking::Unit(j))), Step::Unit(k)) => *j == *k,
+        (Line::Rule(Rule::Mark(Marking::Ban(j, id))), Step::Ban(k, quoted)) => *j == *k && *id == *quoted,
+        (Line::Rule(Rule::Narrow(Narrowing::Push(j))), Step::Push(k)) => *j == *k,
+        (Line::Rule(Rule::Narrow(Narrowing::Combine(pairs))), Step::Combine(made)) =>
             pairs.as_slice() == made.pairs.as_slice(),
         _ => false,
     }
@@ -395,12 +395,12 @@ fn are_steps(alloc: Global, lines: &[&str], steps: &[Step]) -> bool {
 // Whether the line says this end, which closes a state.
 fn is_end(line: &Line, end: &End) -> bool {
     match (line, end) {
-        (Line::Rule(Rule::False), End::False) => true,
-        (Line::Rule(Rule::Atom(AtomRule::Void, j)), End::Void(k)) => *j == *k,
-        (Line::Rule(Rule::Atom(AtomRule::VoidNo, j)), End::VoidNo(k)) => *j == *k,
-        (Line::Rule(Rule::By(id)), End::By(quoted)) => *id == *quoted,
+        (Line::Rule(Rule::End(Ending::False)), End::False) => true,
+        (Line::Rule(Rule::End(Ending::Void(Narrowing::Pull(j)))), End::Void(k)) => *j == *k,
+        (Line::Rule(Rule::End(Ending::Void(Narrowing::Push(j)))), End::VoidNo(k)) => *j == *k,
+        (Line::Rule(Rule::End(Ending::By(id))), End::By(quoted)) => *id == *quoted,
         (
-            Line::Rule(Rule::Combination(CombinationRule::VoidCombine, pairs)),
+            Line::Rule(Rule::End(Ending::Void(Narrowing::Combine(pairs)))),
             End::VoidCombine(made),
         ) => { pairs.as_slice() == made.pairs.as_slice() }
         _ => false,

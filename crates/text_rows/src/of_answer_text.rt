@@ -6,7 +6,7 @@ ghost use Rattle.text_rows.specs.TriedAnswerText.{nought, one, from_nought_to_on
 
 use cert_check::CertFault;
 use check_run::*;
-use cover_line::{AtomRule, CombinationRule, Word};
+use cover_line::{NarrowingKind, Word};
 use dyadic::{Dy, Frac, read_dy};
 use ival::{Domain, Range, Space, Truths};
 use poly_graph::{Axis, Declared, FormNode, FormTable, Graph, NoNode, Problem};
@@ -255,21 +255,21 @@ const REFUSALS: &[(Told, &str)] = &[
     ),
     (
         Told::Refused(CertFault::RuleFails {
-            rule: Word::Atom(AtomRule::Pull),
+            rule: Word::Narrow(NarrowingKind::Pull),
             line: 7,
         }),
         "certificate fault 3 RuleFails pull line 7\n",
     ),
     (
         Told::Refused(CertFault::RuleFails {
-            rule: Word::Combination(CombinationRule::Combine),
+            rule: Word::Narrow(NarrowingKind::Combine),
             line: 8,
         }),
         "certificate fault 3 RuleFails comb line 8\n",
     ),
     (
         Told::Refused(CertFault::RuleFails {
-            rule: Word::Combination(CombinationRule::VoidCombine),
+            rule: Word::Void(NarrowingKind::Combine),
             line: 9,
         }),
         "certificate fault 3 RuleFails voidcomb line 9\n",

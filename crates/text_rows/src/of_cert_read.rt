@@ -1,6 +1,6 @@
 // Lines and what they say, long lines, and a text cut at every place.
 use cert_read::*;
-use cover_line::{AtomRule, CombinationRule, Rule};
+use cover_line::{Branching, Ending, Marking, Narrowing, Rule, Staying};
 use dyadic::{Dy, read_dy};
 use std::alloc::{AllocError, Global};
 
@@ -58,18 +58,18 @@ fn plain_of(line: &Line) -> Option<Plain> {
         Line::End => Some(Plain::End),
         Line::Lemma(n) => Some(Plain::Lemma(*n)),
         Line::Bool(n) => Some(Plain::Bool(*n)),
-        Line::Rule(Rule::Atom(AtomRule::Pull, n)) => Some(Plain::Pull(*n)),
-        Line::Rule(Rule::Atom(AtomRule::Unit, n)) => Some(Plain::Unit(*n)),
-        Line::Rule(Rule::Atom(AtomRule::Void, n)) => Some(Plain::Void(*n)),
-        Line::Rule(Rule::Atom(AtomRule::Push, n)) => Some(Plain::Push(*n)),
-        Line::Rule(Rule::Atom(AtomRule::VoidNo, n)) => Some(Plain::VoidNo(*n)),
-        Line::Rule(Rule::Atom(AtomRule::Case, n)) => Some(Plain::Case(*n)),
-        Line::Rule(Rule::Atom(AtomRule::Stuck, n)) => Some(Plain::Stuck(*n)),
-        Line::Rule(Rule::By(n)) => Some(Plain::By(*n)),
-        Line::Rule(Rule::Ban(a, b)) => Some(Plain::Ban(*a, *b)),
-        Line::Rule(Rule::Flip(n)) => Some(Plain::Flip(*n)),
-        Line::Rule(Rule::False) => Some(Plain::False),
-        Line::Rule(Rule::Open) => Some(Plain::Open),
+        Line::Rule(Rule::Narrow(Narrowing::Pull(n))) => Some(Plain::Pull(*n)),
+        Line::Rule(Rule::Mark(Marking::Unit(n))) => Some(Plain::Unit(*n)),
+        Line::Rule(Rule::End(Ending::Void(Narrowing::Pull(n)))) => Some(Plain::Void(*n)),
+        Line::Rule(Rule::Narrow(Narrowing::Push(n))) => Some(Plain::Push(*n)),
+        Line::Rule(Rule::End(Ending::Void(Narrowing::Push(n)))) => Some(Plain::VoidNo(*n)),
+        Line::Rule(Rule::Branch(Branching::Case(n))) => Some(Plain::Case(*n)),
+        Line::Rule(Rule::Stay(Staying::Stuck(n))) => Some(Plain::Stuck(*n)),
+        Line::Rule(Rule::End(Ending::By(n))) => Some(Plain::By(*n)),
+        Line::Rule(Rule::Mark(Marking::Ban(a, b))) => Some(Plain::Ban(*a, *b)),
+        Line::Rule(Rule::Branch(Branching::Flip(n))) => Some(Plain::Flip(*n)),
+        Line::Rule(Rule::End(Ending::False)) => Some(Plain::False),
+        Line::Rule(Rule::Stay(Staying::Open)) => Some(Plain::Open),
         Line::Empty(n) => Some(Plain::Empty(*n)),
         _ => None,
     }
@@ -97,14 +97,14 @@ fn is_said(line: &Line, said: &Said) -> bool {
             is_number(*low, least) && is_number(*high, most)
         }
         (Line::RealValue(value), Said::Value(text)) => is_number(*value, text),
-        (Line::Rule(Rule::Cut(axis, place)), Said::Cut(of, text)) => *axis == *of
+        (Line::Rule(Rule::Branch(Branching::Cut(axis, place))), Said::Cut(of, text)) => *axis == *of
             && is_number(*place, text),
         (Line::Yes(atoms), Said::Yes(wanted)) => atoms.as_slice() == *wanted,
         (Line::No(atoms), Said::No(wanted)) => atoms.as_slice() == *wanted,
-        (Line::Rule(Rule::Combination(CombinationRule::Combine, pairs)), Said::Combine(wanted)) =>
+        (Line::Rule(Rule::Narrow(Narrowing::Combine(pairs))), Said::Combine(wanted)) =>
             are_pairs(pairs, wanted),
         (
-            Line::Rule(Rule::Combination(CombinationRule::VoidCombine, pairs)),
+            Line::Rule(Rule::End(Ending::Void(Narrowing::Combine(pairs)))),
             Said::VoidCombine(wanted),
         ) => are_pairs(pairs, wanted),
         (line, Said::Plain(wanted)) => plain_of(line) == Some(*wanted),

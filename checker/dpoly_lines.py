@@ -1,0 +1,57 @@
+"""The lines of a tree by their first words: what each does with the state where it stands, and what
+follows its word. The table that all of the repository's Python has of them."""
+from typing import Dict, NamedTuple
+
+# How many states a line of each shape leaves to the lines behind it; one that stays leaves its own
+# state open.
+LEFT = {'narrows': 1, 'marks': 1, 'parts': 2, 'ends': 0, 'stays': 0}
+
+
+class Rule(NamedTuple):
+    """The lines of one word: their shape; a letter for each operand, A an atom, X an axis, M a
+    lemma, D a number of the grid, with `+` behind them where all of them may come again; and what
+    narrows the box, if anything does."""
+    shape: str
+    operands: str = ''
+    by: str = ''
+
+    @property
+    def left(self) -> int:
+        """How many states a line leaves to the lines behind it."""
+        return LEFT[self.shape]
+
+    def kinds(self, count: int) -> str:
+        """A letter for each operand of a line that has so many."""
+        if self.operands.endswith('+'):
+            once = self.operands[:-1]
+            return once * max(1, count // len(once))
+        return self.operands
+
+
+RULES: Dict[str, Rule] = {
+    'pull': Rule('narrows', 'A', 'range'),
+    'push': Rule('narrows', 'A', 'off-range'),
+    'comb': Rule('narrows', 'AD+', 'combination'),
+    'void': Rule('ends', 'A', 'range'),
+    'voidno': Rule('ends', 'A', 'off-range'),
+    'voidcomb': Rule('ends', 'AD+', 'combination'),
+    'false': Rule('ends'),
+    'by': Rule('ends', 'M'),
+    'over': Rule('ends'),
+    'empty': Rule('ends', 'X'),
+    'unit': Rule('marks', 'A'),
+    'ban': Rule('marks', 'AM'),
+    'cut': Rule('parts', 'XD'),
+    'flip': Rule('parts', 'X'),
+    'case': Rule('parts', 'A'),
+    'open': Rule('stays'),
+    'stuck': Rule('stays', 'A'),
+}
+
+
+def rule_of(line: str) -> Rule:
+    """The rule of a line of a tree, by its first word. ValueError where it is that of none."""
+    word = line.split(' ', 1)[0]
+    if word not in RULES:
+        raise ValueError(f'{word!r} is the first word of no line of a tree')
+    return RULES[word]
