@@ -2,7 +2,8 @@
 ghost use Rattle.std.specs.Prelude.{◌≡◌, ◌≤◌, ◌+◌, ◌∷◌, [], length, map};
 ghost use Rattle.std.specs.List.{AllByRecursion};
 ghost use Rattle.ival.specs.SpaceViews.{domain_of, space_of};
-ghost use Rattle.cover_data.specs.Views.{step_line, end_line};
+ghost use Rattle.cover_line.specs.Line.{end_by};
+ghost use Rattle.cover_data.specs.Views.{closing_of, end_line, step_line};
 ghost use Rattle.cover_book.specs.Steps.{most_lemmas};
 ghost use Rattle.cover_book.specs.Tree.{lemma_tree};
 ghost use Rattle.cover_book.specs.Views.{learned_of};
@@ -17,7 +18,8 @@ use crate::append::{
 };
 use crate::keyword::{Counted, Multiplied, Plain};
 use cover_book::{Learned, Lines};
-use cover_data::{End, Options, State, Step};
+use cover_data::{Closing, End, Narrowing, Options, State, Step};
+use cover_line::{Branching, Marking};
 use ival::{Domain, Space, Truths};
 use std::alloc::AllocError;
 
@@ -87,15 +89,31 @@ fn append_step(text: &mut Vec<u8>, step: &Step) -> Result<(), AllocError>
     ensures { Appends text.old text.new (rule_line (step_line step.now) ∷ []) result }
 {
     match step {
-        Step::Pull(atom) => append_counted(text, Counted::Pull, *atom),
-        Step::Push(atom) => append_counted(text, Counted::Push, *atom),
-        Step::Unit(atom) => append_counted(text, Counted::Unit, *atom),
-        Step::Ban(atom, lemma) => append_ban(text, *atom, *lemma),
-        Step::Combine(combination) => append_combination(
+        Step::Narrow(Narrowing::Pull(atom)) => append_counted(text, Counted::Pull, *atom),
+        Step::Narrow(Narrowing::Push(atom)) => append_counted(text, Counted::Push, *atom),
+        Step::Narrow(Narrowing::Combine(combination)) => append_combination(
             text,
             Multiplied::Combine,
             combination,
         ),
+        Step::Mark(Marking::Unit(atom)) => append_counted(text, Counted::Unit, *atom),
+        Step::Mark(Marking::Ban(atom, lemma)) => append_ban(text, *atom, *lemma),
+    }
+}
+
+fn append_closing(text: &mut Vec<u8>, closing: &Closing) -> Result<(), AllocError>
+    ensures { Appends text.old text.new (rule_line (end_by (closing_of closing.now)) ∷ []) result }
+{
+    match closing {
+        Closing::Void(Narrowing::Pull(atom)) => append_counted(text, Counted::Void, *atom),
+        Closing::Void(Narrowing::Push(atom)) => append_counted(text, Counted::VoidNo, *atom),
+        Closing::Void(Narrowing::Combine(combination)) => append_combination(
+            text,
+            Multiplied::VoidCombine,
+            combination,
+        ),
+        Closing::False => append_plain(text, Plain::False),
+        Closing::By(lemma) => append_counted(text, Counted::By, *lemma),
     }
 }
 
@@ -103,18 +121,10 @@ fn append_end(text: &mut Vec<u8>, end: &End) -> Result<(), AllocError>
     ensures { Appends text.old text.new (rule_line (end_line end.now) ∷ []) result }
 {
     match end {
-        End::Void(atom) => append_counted(text, Counted::Void, *atom),
-        End::VoidNo(atom) => append_counted(text, Counted::VoidNo, *atom),
-        End::VoidCombine(combination) => append_combination(
-            text,
-            Multiplied::VoidCombine,
-            combination,
-        ),
-        End::False => append_plain(text, Plain::False),
-        End::By(lemma) => append_counted(text, Counted::By, *lemma),
-        End::Cut(axis, at) => append_cut(text, *axis, *at),
-        End::Flip(axis) => append_counted(text, Counted::Flip, *axis),
-        End::Case(atom) => append_counted(text, Counted::Case, *atom),
+        End::Close(closing) => append_closing(text, closing),
+        End::Part(Branching::Cut(axis, at)) => append_cut(text, *axis, *at),
+        End::Part(Branching::Flip(axis)) => append_counted(text, Counted::Flip, *axis),
+        End::Part(Branching::Case(atom)) => append_counted(text, Counted::Case, *atom),
         End::Stuck(atom) => append_counted(text, Counted::Stuck, *atom),
     }
 }
