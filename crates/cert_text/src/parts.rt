@@ -2,13 +2,14 @@
 ghost use Rattle.std.specs.Prelude.{◌≡◌, ◌≤◌, ◌+◌, ◌∷◌, [], length, map};
 ghost use Rattle.std.specs.List.{AllByRecursion};
 ghost use Rattle.ival.specs.SpaceViews.{domain_of, space_of};
-ghost use Rattle.cover_data.specs.Views.{step_line, end_line};
+ghost use Rattle.cover_line.specs.Line.{end_by};
+ghost use Rattle.cover_data.specs.Views.{closing_of, end_line, step_line};
 ghost use Rattle.cover_book.specs.Steps.{most_lemmas};
 ghost use Rattle.cover_book.specs.Tree.{lemma_tree};
 ghost use Rattle.cover_book.specs.Views.{learned_of};
 ghost use Rattle.cert_read.specs.CertLine.{rule_line};
 ghost use Rattle.cert_model.specs.Written.{domain_line, lemma_lines, point_line, rule_lines};
-ghost use Rattle.cert_text.specs.Calls.{Appends, AppendsRuled, header_of, operands_of};
+ghost use Rattle.cert_text.specs.Calls.{Appends, header_of};
 ghost use Rattle.cert_text.specs.Parts.{HasFewMarks, kept_lines, learned_lines};
 
 use crate::append::{
@@ -16,10 +17,10 @@ use crate::append::{
 };
 use crate::keyword::{Counted, Plain};
 use crate::line::append_short_rule;
-use crate::operands::Operands;
+use crate::operands::{kind_of, of_kept};
 use cover_book::{Learned, Lines};
-use cover_data::{Combination, End, Options, State, Step};
-use cover_line::{Branching, Ending, Marking, Narrowing, NarrowingKind, Rule, Staying, Word};
+use cover_data::{Closing, End, Options, State, Step};
+use cover_line::{Ending, Rule, Staying, Word};
 use ival::{Domain, Space, Truths};
 use std::alloc::AllocError;
 
@@ -85,30 +86,30 @@ pub(crate) fn append_point(text: &mut Vec<u8>, point: &Space) -> Result<(), Allo
     Ok(())
 }
 
-// A line of a combination, by its first word.
-fn append_combination(
-    text: &mut Vec<u8>,
-    word: Word,
-    combination: &Combination,
-) -> Result<(), AllocError>
-    ensures { AppendsRuled text.old text.new word (operands_of combination.now) result }
-{
-    append_ruled(text, word, &Operands::Multipliers(&combination.pairs))
-}
-
 fn append_step(text: &mut Vec<u8>, step: &Step) -> Result<(), AllocError>
     ensures { Appends text.old text.new (rule_line (step_line step.now) ∷ []) result }
 {
     match step {
-        Step::Pull(atom) => append_short_rule(text, &Rule::Narrow(Narrowing::Pull(*atom))),
-        Step::Push(atom) => append_short_rule(text, &Rule::Narrow(Narrowing::Push(*atom))),
-        Step::Unit(atom) => append_short_rule(text, &Rule::Mark(Marking::Unit(*atom))),
-        Step::Ban(atom, lemma) => {
-            append_short_rule(text, &Rule::Mark(Marking::Ban(*atom, *lemma)))
-        }
-        Step::Combine(combination) => {
-            append_combination(text, Word::Narrow(NarrowingKind::Combine), combination)
-        }
+        Step::Narrow(narrowing) => append_ruled(
+            text,
+            Word::Narrow(kind_of(narrowing)),
+            &of_kept(narrowing),
+        ),
+        Step::Mark(marking) => append_short_rule(text, &Rule::Mark(*marking)),
+    }
+}
+
+fn append_closing(text: &mut Vec<u8>, closing: &Closing) -> Result<(), AllocError>
+    ensures { Appends text.old text.new (rule_line (end_by (closing_of closing.now)) ∷ []) result }
+{
+    match closing {
+        Closing::Void(narrowing) => append_ruled(
+            text,
+            Word::Void(kind_of(narrowing)),
+            &of_kept(narrowing),
+        ),
+        Closing::False => append_short_rule(text, &Rule::End(Ending::False)),
+        Closing::By(lemma) => append_short_rule(text, &Rule::End(Ending::By(*lemma))),
     }
 }
 
@@ -116,20 +117,8 @@ fn append_end(text: &mut Vec<u8>, end: &End) -> Result<(), AllocError>
     ensures { Appends text.old text.new (rule_line (end_line end.now) ∷ []) result }
 {
     match end {
-        End::Void(atom) => {
-            append_short_rule(text, &Rule::End(Ending::Void(Narrowing::Pull(*atom))))
-        }
-        End::VoidNo(atom) => {
-            append_short_rule(text, &Rule::End(Ending::Void(Narrowing::Push(*atom))))
-        }
-        End::VoidCombine(combination) => {
-            append_combination(text, Word::Void(NarrowingKind::Combine), combination)
-        }
-        End::False => append_short_rule(text, &Rule::End(Ending::False)),
-        End::By(lemma) => append_short_rule(text, &Rule::End(Ending::By(*lemma))),
-        End::Cut(axis, at) => append_short_rule(text, &Rule::Branch(Branching::Cut(*axis, *at))),
-        End::Flip(axis) => append_short_rule(text, &Rule::Branch(Branching::Flip(*axis))),
-        End::Case(atom) => append_short_rule(text, &Rule::Branch(Branching::Case(*atom))),
+        End::Close(closing) => append_closing(text, closing),
+        End::Part(branching) => append_short_rule(text, &Rule::Branch(*branching)),
         End::Stuck(atom) => append_short_rule(text, &Rule::Stay(Staying::Stuck(*atom))),
     }
 }
