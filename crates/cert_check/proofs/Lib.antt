@@ -30,4 +30,3 @@ pub mod Tiny
 pub mod VerdictAnswers
 pub mod VerdictLed
 pub mod Waits
-pub mod Narrowings

@@ -3,18 +3,18 @@ use Rattle.std.proofs.Common.{◌≡◌, ℕ, zero, suc, List, [], ◌∷◌, le
 use Rattle.std.proofs.lemmas.List.{length-set, length-map}
 use Rattle.dyadic.specs.Rounding.{below_all, finite, above_all}
 use Rattle.interval_model.specs.Interval.{Interval, nothing, between, is_nothing, met}
-use Rattle.interval_model.specs.Space.{Domain, Space, changed, middle, strictly_inside, lower_part, upper_part, is_undecided, keep, test_axis}
+use Rattle.interval_model.specs.Space.{Domain, Space, changed, middle, lower_part, upper_part, keep}
 use Rattle.poly_graph.specs.Term.{Node, variable_node}
 use Rattle.cover_model.specs.OffRange.{off_range}
 use Rattle.cover_model.specs.Space.{range}
 use Rattle.cover_model.specs.Narrowed.{set_axis, with_axes, some_empty, narrowed, enclosures}
-use Rattle.poly_graph.specs.Problem.{Axis, atom_at}
+use Rattle.poly_graph.specs.Problem.{Axis, Problem, atom_at}
 use Rattle.cover_model.specs.Root.{root_domain, root_space}
 use Rattle.poly_graph.specs.ProblemViews.{Parts, problem_of}
 use Rattle.poly_graph.specs.Marks.{Mark, marked_yes, marked_no, unmarked}
-use Rattle.cover_model.specs.State.{State, Loosenings, margin_of, in_yes, undecided, with_mark, with_yes, with_no, with_space, may, root_state}
+use Rattle.cover_model.specs.State.{State, Loosenings, margin_of, with_mark, with_space, may, root_state}
 use Rattle.cover_model.specs.Combination.{Expansion, expansion, allowed_range, marked_range, range_of, tightened, with_axis, with_intervals, left_of_space}
-use Rattle.cover_model.specs.Rules.{Line, Left, closed, one, two, stays, narrowing, narrowing_off, combining, can_combine, can_push, lemma_covers, with_changed, when, pulled, voided, is_stuck_atom, rule, narrow_by, by_range, by_off_range, by_combination, end_by, void_by, false_form, by_lemma, mark_by, unit_atom, ban_atom, branch_by, cut_axis, flip_axis, case_atom, stay_by, open_state, stuck_atom}
+use Rattle.cover_model.specs.Rules.{Line, narrow_by, Narrowing, by_range, by_off_range, by_combination, end_by, void_by, false_form, by_lemma, mark_by, Marking, unit_atom, ban_atom, branch_by, Branching, cut_axis, flip_axis, case_atom, stay_by, Left, closed, one, two, stays, can_narrow, narrowed_to, lemma_covers, can_mark, marked, can_branch, first_child, second_child, can_stay, with_changed, when, pulled, voided, rule}
 use Rattle.cert_check.specs.States.{Fits}
 use Rattle.cert_check.specs.Waiting.{FitsLeft}
 
@@ -54,6 +54,19 @@ length-left space centre allowed x new e = go (is_nothing (met (range_of space c
     go true f = cc
     go false f = length-intervals (tightened space centre allowed x.rest x.parts) space new f
 
+length-by : (nodes : List Node) (ns : List (Option Interval)) (space new : Space) → cond (some_empty ns) None (Some (with_axes nodes ns space)) ≡ Some new → length new ≡ length space
+length-by nodes ns space new e = go (some_empty ns) e
+  where
+    go : (t : Bool) → cond t None (Some (with_axes nodes ns space)) ≡ Some new → length new ≡ length space
+    go true f = cc
+    go false f = let same : with_axes nodes ns space ≡ new = cc in ap length (sym same) ∙ length-axes nodes ns space
+
+-- what a narrowing leaves has the axes of the space
+length-narrowed : (p : Problem) (s : Loosenings) (S : State) (n : Narrowing) (new : Space) → narrowed_to p s S n ≡ Some new → length new ≡ length S.space
+length-narrowed p s S (by_range j) new e = length-by p.nodes (narrowed p.nodes (enclosures S.space p.nodes) (atom_at p j).0 (range (margin_of s) (atom_at p j).1)) S.space new e
+length-narrowed p s S (by_off_range j) new e = length-by p.nodes (narrowed p.nodes (enclosures S.space p.nodes) (atom_at p j).0 (off_range (margin_of s) (atom_at p j).1)) S.space new e
+length-narrowed p s S (by_combination ms) new e = length-left S.space (middle S.space) (allowed_range (marked_range p (margin_of s) S.marks) ms) (expansion p S.space (middle S.space) ms) new e
+
 abbrev pub state : Space → List Mark → State
 state space marks = record { space = space; marks = marks }
 
@@ -75,10 +88,6 @@ module _ (p : Parts) where
   cond-fits true o h = h
   cond-fits false o h = tt
 
-  pulled-fits : (S : State) (b : Bool) (space : Space) → length space ≡ length S.space → Fits p S → FitsLeft p (pulled S (cond b None (Some space)))
-  pulled-fits S true space e h = tt
-  pulled-fits S false space e h = space-fits S space e h
-
   left-fits : (S : State) (o : Option Space) → ((space : Space) → o ≡ Some space → length space ≡ length S.space) → Fits p S → FitsLeft p (pulled S o)
   left-fits S None f h = tt
   left-fits S (Some space) f h = space-fits S space (f space refl) h
@@ -87,29 +96,28 @@ module _ (p : Parts) where
   voided-fits None = tt
   voided-fits (Some space) = tt
 
+  marked-fits : (S : State) (m : Marking) → Fits p S → Fits p (marked S m)
+  marked-fits S (unit_atom j) h = mark_fits S j marked_yes h
+  marked-fits S (ban_atom j i) h = mark_fits S j marked_no h
+
+  first-fits : (S : State) (b : Branching) → Fits p S → Fits p (first_child S b)
+  first-fits S (cut_axis axis c) h = changed-fits S (lower_part c) axis h
+  first-fits S (flip_axis axis) h = changed-fits S (keep false) axis h
+  first-fits S (case_atom j) h = mark_fits S j marked_yes h
+
+  second-fits : (S : State) (b : Branching) → Fits p S → Fits p (second_child S b)
+  second-fits S (cut_axis axis c) h = changed-fits S (upper_part c) axis h
+  second-fits S (flip_axis axis) h = changed-fits S (keep true) axis h
+  second-fits S (case_atom j) h = mark_fits S j marked_no h
+
   pub rule_fits : (s : Loosenings) (lemmas : List State) (S : State) (l : Line) → Fits p S → FitsLeft p (rule (problem_of p) s lemmas S l)
-  rule_fits s lemmas S (narrow_by (by_range j)) h =
-      let ns : List (Option Interval) = narrowed p.nodes (enclosures S.space p.nodes) (atom_at (problem_of p) j).0 (range (margin_of s) (atom_at (problem_of p) j).1) in
-      cond-fits (in_yes S j) (pulled S (narrowing (problem_of p) s S j)) (pulled-fits S (some_empty ns) (with_axes p.nodes ns S.space) (length-axes p.nodes ns S.space) h)
-  rule_fits s lemmas S (mark_by (unit_atom j)) h = when-fits (undecided S j && not (may (problem_of p) s (with_no S j))) (one (with_yes S j)) (mark_fits S j marked_yes h)
-  rule_fits s lemmas S (mark_by (ban_atom j i)) h = when-fits (undecided S j && lemma_covers lemmas i (with_yes S j)) (one (with_no S j)) (mark_fits S j marked_no h)
-  rule_fits s lemmas S (end_by (void_by (by_range j))) h = cond-fits (in_yes S j) (voided (narrowing (problem_of p) s S j)) (voided-fits (narrowing (problem_of p) s S j))
-  rule_fits s lemmas S (narrow_by (by_off_range j)) h =
-      let ns : List (Option Interval) = narrowed p.nodes (enclosures S.space p.nodes) (atom_at (problem_of p) j).0 (off_range (margin_of s) (atom_at (problem_of p) j).1) in
-      cond-fits (can_push (problem_of p) s S j) (pulled S (narrowing_off (problem_of p) s S j)) (pulled-fits S (some_empty ns) (with_axes p.nodes ns S.space) (length-axes p.nodes ns S.space) h)
-  rule_fits s lemmas S (end_by (void_by (by_off_range j))) h = cond-fits (can_push (problem_of p) s S j) (voided (narrowing_off (problem_of p) s S j)) (voided-fits (narrowing_off (problem_of p) s S j))
-  rule_fits s lemmas S (narrow_by (by_combination ms)) h = cond-fits (can_combine (problem_of p) s S ms) (pulled S (combining (problem_of p) s S ms)) (left-fits S (combining (problem_of p) s S ms) (λ space e.
-      length-left S.space (middle S.space) (allowed_range (marked_range (problem_of p) (margin_of s) S.marks) ms) (expansion (problem_of p) S.space (middle S.space) ms) space e) h)
-  rule_fits s lemmas S (end_by (void_by (by_combination ms))) h = cond-fits (can_combine (problem_of p) s S ms) (voided (combining (problem_of p) s S ms)) (voided-fits (combining (problem_of p) s S ms))
+  rule_fits s lemmas S (narrow_by n) h = cond-fits (can_narrow (problem_of p) s S n) (pulled S (narrowed_to (problem_of p) s S n)) (left-fits S (narrowed_to (problem_of p) s S n) (length-narrowed (problem_of p) s S n) h)
+  rule_fits s lemmas S (end_by (void_by n)) h = cond-fits (can_narrow (problem_of p) s S n) (voided (narrowed_to (problem_of p) s S n)) (voided-fits (narrowed_to (problem_of p) s S n))
   rule_fits s lemmas S (end_by false_form) h = when-fits (not (may (problem_of p) s S)) closed tt
   rule_fits s lemmas S (end_by (by_lemma i)) h = when-fits (lemma_covers lemmas i S) closed tt
-  rule_fits s lemmas S (branch_by (cut_axis axis c)) h = when-fits (test_axis (strictly_inside c) axis S.space) (two (with_changed S (lower_part c) axis) (with_changed S (upper_part c) axis))
-      (changed-fits S (lower_part c) axis h, changed-fits S (upper_part c) axis h)
-  rule_fits s lemmas S (branch_by (flip_axis axis)) h = when-fits (test_axis is_undecided axis S.space) (two (with_changed S (keep false) axis) (with_changed S (keep true) axis))
-      (changed-fits S (keep false) axis h, changed-fits S (keep true) axis h)
-  rule_fits s lemmas S (branch_by (case_atom j)) h = when-fits (undecided S j) (two (with_yes S j) (with_no S j)) (mark_fits S j marked_yes h, mark_fits S j marked_no h)
-  rule_fits s lemmas S (stay_by open_state) h = tt
-  rule_fits s lemmas S (stay_by (stuck_atom j)) h = when-fits (is_stuck_atom (problem_of p) s S j) stays tt
+  rule_fits s lemmas S (mark_by m) h = when-fits (can_mark (problem_of p) s lemmas S m) (one (marked S m)) (marked-fits S m h)
+  rule_fits s lemmas S (branch_by b) h = when-fits (can_branch S b) (two (first_child S b) (second_child S b)) (first-fits S b h, second-fits S b h)
+  rule_fits s lemmas S (stay_by t) h = when-fits (can_stay (problem_of p) s S t) stays tt
 
   length-none : (n : ℕ) → length (replicate n unmarked) ≡ n
   length-none zero = refl

@@ -13,7 +13,6 @@ pub mod Judged
 pub mod Judgements
 pub mod Laws
 pub mod Lists
-pub mod Narrowing
 pub mod Serving
 pub mod Sessions
 pub mod Stages

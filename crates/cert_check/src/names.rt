@@ -1,15 +1,16 @@
 // What a line names.
 ghost use Rattle.std.specs.Prelude.{◌≡◌};
-ghost use Rattle.cert_model.specs.Due.{are_atoms, is_atom, is_axis, is_crossed_box, names_well, Next};
+ghost use Rattle.cert_model.specs.Due.{are_atoms, are_there, is_atom, is_axis, is_crossed_box, names_well, Next};
 ghost use Rattle.cover_model.specs.Views.{multipliers_of};
 ghost use Rattle.cert_model.specs.Accepted.{no_crossing};
 ghost use Rattle.poly_graph.specs.ProblemViews.{problem_of};
 ghost use Rattle.poly_graph.specs.Problem.{crosses};
 ghost use Rattle.cert_check.specs.Faults.{IsLineRefusal};
-ghost use Rattle.cover_line.specs.Views.{line_of as rule_of};
+ghost use Rattle.cover_line.specs.Views.{line_of as rule_of, narrowing_of};
+ghost use Rattle.cover_line.specs.Words.{narrowing_operands};
 
 use crate::refusal::Refusal;
-use cover_line::{Rule, Word};
+use cover_line::{Branching, Ending, Marking, Narrowing, Rule, Staying, Word};
 use dyadic::Dy;
 use poly_graph::Problem;
 

@@ -1,10 +1,13 @@
-// The rules that narrow the space of a state: by one atom, or by several together.
-ghost use Rattle.std.specs.Prelude.{◌≡◌, []};
+// The rules that narrow the space of a state, or close it where nothing is left.
+ghost use Rattle.std.specs.Prelude.{◌≡◌, [], IsTrue};
 ghost use Rattle.poly_graph.specs.ProblemViews.{problem_of};
 ghost use Rattle.ival.specs.Narrows.{IsNarrowed};
 ghost use Rattle.ival.specs.SpaceViews.{space_of};
+ghost use Rattle.cover_line.specs.Views.{narrowing_of};
+ghost use Rattle.cover_line.specs.Words.{narrowing_operands};
+ghost use Rattle.cover_model.specs.Rules.{can_narrow, end_by, narrow_by, narrowed_to, void_by};
+ghost use Rattle.cert_model.specs.Due.{are_there};
 ghost use Rattle.cert_check.specs.States.{state_of, loosenings_of, Fits};
-ghost use Rattle.cert_check.specs.Narrowing.{NamesAtoms, closing, is_allowed, leaving, space_left};
 ghost use Rattle.cert_check.specs.Steps.{IsLeftBy};
 ghost use Rattle.cert_check.specs.Serving.{Serves};
 
@@ -14,32 +17,22 @@ use crate::loosenings::Loosenings;
 use crate::moves::can_push;
 use crate::state::State;
 use crate::tools::Tools;
-use dyadic::Dy;
+use cover_line::Narrowing;
 use ival::Narrowed;
 use poly_graph::Problem;
 
-/// What narrows a space.
-#[derive(Clone, Copy)]
-pub enum Narrowing<'a> {
-    /// The range of an atom that is marked yes.
-    Range(u32),
-    /// The off-range of an inequality that is marked no.
-    OffRange(u32),
-    /// A combination of marked atoms.
-    Combination(&'a [(u32, Dy)]),
-}
-
 // Whether the marks of the state allow it.
-fn is_allowed(problem: &Problem, s: Loosenings, state: &State, by: Narrowing<'_>) -> bool
+fn can_narrow(problem: &Problem, s: Loosenings, state: &State, narrowing: &Narrowing) -> bool
     requires fits { Fits problem.now (state_of state.now) }
-    requires atoms { NamesAtoms problem.now by }
-    ensures { result ≡ is_allowed (problem_of problem.now) (loosenings_of s)
-        (state_of state.now) by.entry }
+    requires atoms { IsTrue
+        (are_there (problem_of problem.now) (narrowing_operands (narrowing_of narrowing.now))) }
+    ensures { result ≡ can_narrow (problem_of problem.now) (loosenings_of s)
+        (state_of state.now) (narrowing_of narrowing.now) }
 {
-    match by {
-        Narrowing::Range(j) => state.in_yes(j),
-        Narrowing::OffRange(j) => can_push(problem, s, state, j),
-        Narrowing::Combination(pairs) => can_combine(problem, s, state, pairs),
+    match narrowing {
+        Narrowing::Pull(j) => state.in_yes(*j),
+        Narrowing::Push(j) => can_push(problem, s, state, *j),
+        Narrowing::Combine(pairs) => can_combine(problem, s, state, pairs),
     }
 }
 
@@ -49,71 +42,75 @@ fn contract(
     tools: &mut Tools,
     s: Loosenings,
     state: &mut State,
-    by: Narrowing<'_>,
+    narrowing: &Narrowing,
 ) -> Narrowed
     requires serves { Serves problem.now tools.old }
     requires fits { Fits problem.now (state_of state.old) }
-    requires atoms { NamesAtoms problem.now by }
+    requires atoms { IsTrue
+        (are_there (problem_of problem.now) (narrowing_operands (narrowing_of narrowing.now))) }
     ensures space { IsNarrowed (space_of state.old.space) (space_of state.new.space)
-        (space_left (problem_of problem.now) (loosenings_of s) (state_of state.old) by.entry)
+        (narrowed_to (problem_of problem.now) (loosenings_of s) (state_of state.old)
+            (narrowing_of narrowing.now))
         result }
     ensures marks { state.new.lits ≡ state.old.lits }
     ensures serves { Serves problem.now tools.new }
 {
-    match by {
-        Narrowing::Range(j) => tools.narrow(problem, s.margin, j, &mut state.space),
-        Narrowing::OffRange(j) => tools.narrow_off(problem, s.margin, j, &mut state.space),
-        Narrowing::Combination(pairs) => {
+    match narrowing {
+        Narrowing::Pull(j) => tools.narrow(problem, s.margin, *j, &mut state.space),
+        Narrowing::Push(j) => tools.narrow_off(problem, s.margin, *j, &mut state.space),
+        Narrowing::Combine(pairs) => {
             tools.combine(problem, s.margin, &state.lits, pairs, &mut state.space)
         }
     }
 }
 
 /// The state narrowed, where something is left.
-#[tactic(auto, using(crate::proofs::Narrowings::leaving_rule))]
 pub fn narrowed(
     problem: &Problem,
     tools: &mut Tools,
     s: Loosenings,
     state: State,
-    by: Narrowing<'_>,
+    narrowing: &Narrowing,
 ) -> Option<Left>
     requires serves { Serves problem.now tools.old }
     requires fits { Fits problem.now (state_of state) }
-    requires atoms { NamesAtoms problem.now by }
-    ensures rule { IsLeftBy (leaving by.entry) problem.now (loosenings_of s) [] state result }
+    requires atoms { IsTrue
+        (are_there (problem_of problem.now) (narrowing_operands (narrowing_of narrowing.now))) }
+    ensures rule { IsLeftBy (narrow_by (narrowing_of narrowing.now))
+        problem.now (loosenings_of s) [] state result }
     ensures serves { Serves problem.now tools.new }
 {
-    if !is_allowed(problem, s, &state, by) {
+    if !can_narrow(problem, s, &state, narrowing) {
         return None;
     }
     let mut state = state;
-    match contract(problem, tools, s, &mut state, by) {
+    match contract(problem, tools, s, &mut state, narrowing) {
         Narrowed::Empty => None,
         Narrowed::Less | Narrowed::Same => Some(Left::One(state)),
     }
 }
 
 /// Closed, where nothing is left of the space.
-#[tactic(auto, using(crate::proofs::Narrowings::closing_rule))]
 pub fn emptied(
     problem: &Problem,
     tools: &mut Tools,
     s: Loosenings,
     state: State,
-    by: Narrowing<'_>,
+    narrowing: &Narrowing,
 ) -> Option<Left>
     requires serves { Serves problem.now tools.old }
     requires fits { Fits problem.now (state_of state) }
-    requires atoms { NamesAtoms problem.now by }
-    ensures rule { IsLeftBy (closing by.entry) problem.now (loosenings_of s) [] state result }
+    requires atoms { IsTrue
+        (are_there (problem_of problem.now) (narrowing_operands (narrowing_of narrowing.now))) }
+    ensures rule { IsLeftBy (end_by (void_by (narrowing_of narrowing.now)))
+        problem.now (loosenings_of s) [] state result }
     ensures serves { Serves problem.now tools.new }
 {
-    if !is_allowed(problem, s, &state, by) {
+    if !can_narrow(problem, s, &state, narrowing) {
         return None;
     }
     let mut state = state;
-    match contract(problem, tools, s, &mut state, by) {
+    match contract(problem, tools, s, &mut state, narrowing) {
         Narrowed::Empty => Some(Left::Closed),
         Narrowed::Less | Narrowed::Same => None,
     }

@@ -14,7 +14,7 @@ use crate::left::Left;
 use crate::lemmas::Lemmas;
 use crate::loosenings::Loosenings;
 use crate::moves::{ban, unit};
-use crate::narrowing::{Narrowing, emptied, narrowed};
+use crate::narrowing::{emptied, narrowed};
 use crate::state::State;
 use crate::tools::Tools;
 use cover_line::{Branching, Ending, Marking, Rule, Staying};

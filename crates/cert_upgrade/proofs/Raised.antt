@@ -1,14 +1,15 @@
 -- What is due under version 2 where something is due under another version: a line that is taken under it is taken under
 -- version 2, and leads to the same.
-use Rattle.std.proofs.Common.{◌≡◌, ℕ, suc, List, [], ◌∷◌, ◌++◌, Bool, true, false, ◌&&◌, cond, Option, Some, None, refl, ap, sym, subst, length, nat_eq, nat_lt, nat_le}
+use Rattle.std.proofs.Common.{◌≡◌, ℕ, suc, List, [], ◌∷◌, ◌++◌, Bool, true, false, cond, Option, Some, None, refl, ap, ap₂, sym, subst, length, nat_eq, nat_lt, nat_le}
 use Rattle.poly_graph.specs.Problem.{Declared, real_between, any_bool, Axis, Problem, crosses}
 use Rattle.cover_model.specs.State.{State, Loosenings, root_state}
 use Rattle.interval_model.specs.Space.{Space}
-use Rattle.cover_model.specs.Rules.{Line, pull, unit, void, ban, make_false, by, cut, flip, case, open_line, stuck, Left, closed, one, two, stays, rule, has_version_2, in_no_one_sided, is_combination, are_combinable, pulled, voided, narrowing_off, combining, narrow_by, by_range, by_off_range, by_combination, end_by, void_by, false_form, by_lemma, mark_by, unit_atom, ban_atom, branch_by, cut_axis, flip_axis, case_atom, stay_by, open_state, stuck_atom}
+use Rattle.cover_model.specs.Rules.{Line, narrow_by, Narrowing, end_by, void_by, Left, closed, one, two, stays, can_narrow, narrowed_to, pulled, voided, rule}
 use Rattle.cover_line.specs.Words.{word_of}
 use Rattle.cert_read.specs.CertLine.{CertLine, version, margin, delta, bound, cover, point_word, tree_word, end_word, lemma, real_interval, real_value, bool_value, says_false, says_true, yes_list, no_list, rule_line, crossing, Parsed, too_long, bad_line, bad_number, line, parsed}
 use Rattle.cert_model.specs.Due.{CertFault, BadHeader, BadNumber, WrongBound, Missing, NotShown, RuleFails, Standing, left_open, Due, version_due, margin_due, delta_due, bound_due, kind_due, next_due, axis_due, yes_due, no_due, lemma_due, root_due, tree_due, coordinate_due, end_due, nothing_due, Next, on, faulty, given, is_version, names_well, after_rule, after_lemma_rule, tree_goes_on, lemma_goes_on, axis_next, coordinate_next, is_crossed_box, is_shown, same_bound}
 use Rattle.cert_model.specs.Accepted.{next, next_parsed, loosenings_fit, ruled_line, lemma_line, tree_line, root_line, no_crossing, axis_line, coordinate_line, most_lemmas, Course, stopped, reached, course_next, course, Verdict, accepted, refused, at_end, ended, cut_off}
+use Rattle.cert_model.proofs.Narrowings.{can_narrow_in, narrowed_in}
 use Rattle.cert_upgrade.specs.Upgraded.{in_newest, newest_line, behind_first}
 
 abbrev pub in_version_2 : Loosenings → Loosenings
@@ -65,32 +66,20 @@ same-left : (o : Option Left) → RaisesLeft o o
 same-left None = tt
 same-left (Some x) = refl
 
--- the lines of version 2 alone
-gated : (t u : Bool) (o : Option Left) → RaisesLeft (cond (t && u) o None) (cond (true && u) o None)
-gated true u o = same-left (cond (true && u) o None)
-gated false u o = tt
-
-gated-twice : (t u w : Bool) (o : Option Left) → RaisesLeft (cond (t && u && w) o None) (cond (true && u && w) o None)
-gated-twice true u w o = same-left (cond (true && u && w) o None)
-gated-twice false u w o = tt
+-- where the one is lawful, so is the other
+lawful-too : (t u : Bool) (o o' : Option Left) → (t ≡ true → u ≡ true) → o' ≡ o → RaisesLeft (cond t o None) (cond u o' None)
+lawful-too true u o o' f e = subst (RaisesLeft o) (sym (ap₂ (λ (x : Bool) (y : Option Left). cond x y None) (f refl) e)) (same-left o)
+lawful-too false u o o' f e = tt
 
 module _ (p : Problem) (s : Loosenings) where
+  narrows-too : (S : State) (n : Narrowing) (left : Option Space → Option Left) →
+      RaisesLeft (cond (can_narrow p s S n) (left (narrowed_to p s S n)) None) (cond (can_narrow p (in_version_2 s) S n) (left (narrowed_to p (in_version_2 s) S n)) None)
+  narrows-too S n left = lawful-too _ _ _ _ (can_narrow_in p s 2 S n (λ h. refl)) (ap left (narrowed_in p s 2 S n))
+
   rule-raises : (lemmas : List State) (S : State) (l : Line) → RaisesLeft (rule p s lemmas S l) (rule p (in_version_2 s) lemmas S l)
-  rule-raises lemmas S (narrow_by (by_off_range j)) = gated (has_version_2 s) (in_no_one_sided p S j) (pulled S (narrowing_off p s S j))
-  rule-raises lemmas S (end_by (void_by (by_off_range j))) = gated (has_version_2 s) (in_no_one_sided p S j) (voided (narrowing_off p s S j))
-  rule-raises lemmas S (narrow_by (by_combination ms)) = gated-twice (has_version_2 s) (is_combination ms) (are_combinable p S ms) (pulled S (combining p s S ms))
-  rule-raises lemmas S (end_by (void_by (by_combination ms))) = gated-twice (has_version_2 s) (is_combination ms) (are_combinable p S ms) (voided (combining p s S ms))
-  rule-raises lemmas S (narrow_by (by_range j)) = same-left (rule p s lemmas S (pull j))
-  rule-raises lemmas S (mark_by (unit_atom j)) = same-left (rule p s lemmas S (unit j))
-  rule-raises lemmas S (end_by (void_by (by_range j))) = same-left (rule p s lemmas S (void j))
-  rule-raises lemmas S (mark_by (ban_atom j i)) = same-left (rule p s lemmas S (ban j i))
-  rule-raises lemmas S (end_by false_form) = same-left (rule p s lemmas S make_false)
-  rule-raises lemmas S (end_by (by_lemma i)) = same-left (rule p s lemmas S (by i))
-  rule-raises lemmas S (branch_by (cut_axis axis c)) = same-left (rule p s lemmas S (cut axis c))
-  rule-raises lemmas S (branch_by (flip_axis axis)) = same-left (rule p s lemmas S (flip axis))
-  rule-raises lemmas S (branch_by (case_atom j)) = same-left (rule p s lemmas S (case j))
-  rule-raises lemmas S (stay_by open_state) = same-left (rule p s lemmas S open_line)
-  rule-raises lemmas S (stay_by (stuck_atom j)) = same-left (rule p s lemmas S (stuck j))
+  rule-raises lemmas S (narrow_by n) = narrows-too S n (pulled S)
+  rule-raises lemmas S (end_by (void_by n)) = narrows-too S n voided
+  rule-raises lemmas S l = same-left (rule p s lemmas S l)
 
   -- ---- what comes of a line
 
