@@ -4,13 +4,12 @@ use Rattle.std.specs.Prelude.{decimal}
 use Rattle.std.specs.List.{AllByRecursion}
 use Rattle.std.proofs.Math.Seq.{drop-cons}
 use Rattle.std.proofs.Math.ListN.{drop_of_length-le}
-use Rattle.std.proofs.lemmas.List.{append-nil, map_more, take_all, length-map}
+use Rattle.std.proofs.lemmas.List.{append-nil, map_more, take_all}
 use Rattle.interval_model.specs.Space.{Space}
 use Rattle.poly_graph.specs.Marks.{Mark, numbers_from}
 use Rattle.cover_model.specs.State.{Loosenings}
 use Rattle.cover_model.specs.Rules.{Line}
 use Rattle.cover_model.specs.Derivation.{leaf}
-use Rattle.cover_data.specs.declared.combination.Combination.{Combination}
 use Rattle.cover_data.specs.declared.step.Step.{Step}
 use Rattle.cover_data.specs.Views.{step_line, end_line}
 use Rattle.cover_book.proofs.Changed.{lines_after}
@@ -25,9 +24,7 @@ use Rattle.cover_model.specs.Views.{multipliers_of}
 use Rattle.dyadic.specs.declared.dy.Dy.{Dy}
 use Rattle.dyadic.specs.Rounding.{Dyadic}
 use Rattle.dyadic.specs.Views.{dyadic_of}
-use Rattle.cert_text.specs.Calls.{operands_of}
 use Rattle.cert_text.specs.Lines.{HasAppended, HasPairs, marks_line, listed}
-use Rattle.cert_text.specs.Ruled.{HasFewPairs}
 use Rattle.cert_text.specs.Parts.{header_lines, kept_lines, learned_lines}
 use Rattle.cert_text.proofs.Spelling.{rules_append, both_appended, both_pairs}
 
@@ -132,8 +129,3 @@ next_pair xs a b c i x h e p q =
     let done : List (ℕ × Dyadic) = multipliers_of (take i xs) in
     let more : multipliers_of (take (i + 1) xs) ≡ done ++ ((x.0, dyadic_of x.1) ∷ []) = map_more (λ (y : ℕ × Dy). (y.0, dyadic_of y.1)) xs i x h ∙ ap (λ (y : ℕ × Dy). done ++ ((y.0, dyadic_of y.1) ∷ [])) (sym e) in
     subst (λ (ps : List (ℕ × Dyadic)). HasPairs a ps c) (sym more) (both_pairs a b c done ((x.0, dyadic_of x.1) ∷ []) p q)
-
--- those of a combination are few
-pub few_pairs : (c : Combination) → HasFewPairs (operands_of c)
-few_pairs c = let count : length (multipliers_of c.pairs.items) ≡ length c.pairs.items = length-map c.pairs.items (λ (x : ℕ × Dy). (x.0, dyadic_of x.1)) in
-    (omega (arith, count, c.some), omega (arith, count, c.few))

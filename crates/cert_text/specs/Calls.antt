@@ -8,11 +8,10 @@ use Rattle.poly_graph.specs.declared.mark.Mark.{Mark}
 use Rattle.cover_model.specs.State.{State}
 use Rattle.interval_model.specs.Space.{Space}
 use Rattle.poly_graph.specs.ProblemViews.{Parts, problem_of}
-use Rattle.cover_line.specs.Views.{multipliers_of, rule_word}
-use Rattle.cover_line.specs.Words.{Operands, of_multipliers}
+use Rattle.cover_line.specs.Views.{rule_word}
+use Rattle.cover_line.specs.Words.{Operands}
 use Rattle.cover_line.specs.declared.word.Word.{Word}
 use Rattle.cover_data.specs.Margins.{loosenings_of, margins_of}
-use Rattle.cover_data.specs.declared.combination.Combination.{Combination}
 use Rattle.cover_data.specs.declared.margins.Options.{Options}
 use Rattle.cert_read.specs.CertLine.{CertLine}
 use Rattle.cert_model.specs.Accepted.{certificate_text}
@@ -49,9 +48,6 @@ marked_numbers wanted marks = listed (numbers_from (is_marked wanted) 0 (map mar
 -- the lines of this version, and of the margin, the delta and the bound
 abbrev pub header_of : ℕ → Options → List CertLine
 header_of v o = header_lines (record (loosenings_of (margins_of o)) { version = v }) o.bound
-
-abbrev pub operands_of : Combination → Operands
-operands_of c = of_multipliers (multipliers_of c.pairs.items)
 
 -- ---- points
 

@@ -1,10 +1,12 @@
 // What stands behind the first word of a tree's line.
 ghost use Rattle.std.specs.Prelude.{◌≡◌};
-ghost use Rattle.cover_line.specs.Views.{line_of, narrowing_of};
-ghost use Rattle.cover_line.specs.Words.{narrowing_operands, operands_of};
-ghost use Rattle.cert_text.specs.Ruled.{operands_in};
+ghost use Rattle.cover_line.specs.Views.{kind_word, line_of, narrowing_of, voiding_kind_word};
+ghost use Rattle.cover_line.specs.Words.{narrowing_operands, narrowing_word, operands_of, voiding_word};
+ghost use Rattle.cover_data.specs.Views as kept;
+ghost use Rattle.cert_text.specs.Ruled.{HasFewPairs, operands_in};
 
-use cover_line::{Branching, Ending, Marking, Narrowing, Rule, Staying};
+use cover_data::Narrowing as Kept;
+use cover_line::{Branching, Ending, Marking, Narrowing, NarrowingKind, Rule, Staying};
 use dyadic::Dy;
 
 /// What stands behind the first word of a tree's line. Numbers are those of atoms, lemmas and axes.
@@ -46,5 +48,30 @@ pub(crate) fn of_rule(rule: &Rule) -> Operands<'_>
         Rule::Branch(Branching::Case(atom)) => Operands::Atom(*atom),
         Rule::Stay(Staying::Open) => Operands::Nothing,
         Rule::Stay(Staying::Stuck(atom)) => Operands::Atom(*atom),
+    }
+}
+
+/// Those of a narrowing that a book keeps.
+pub(crate) fn of_kept(narrowing: &Kept) -> Operands<'_>
+    ensures operands { operands_in result
+        ≡ narrowing_operands (kept.narrowing_of narrowing.now) }
+    ensures few { HasFewPairs (operands_in result) }
+{
+    match narrowing {
+        Kept::Pull(atom) => Operands::Atom(*atom),
+        Kept::Push(atom) => Operands::Atom(*atom),
+        Kept::Combine(combination) => Operands::Multipliers(&combination.pairs),
+    }
+}
+
+/// What it narrows by.
+pub(crate) fn kind_of(narrowing: &Kept) -> NarrowingKind
+    ensures narrows { kind_word result ≡ narrowing_word (kept.narrowing_of narrowing.now) }
+    ensures voids { voiding_kind_word result ≡ voiding_word (kept.narrowing_of narrowing.now) }
+{
+    match narrowing {
+        Kept::Pull(_) => NarrowingKind::Pull,
+        Kept::Push(_) => NarrowingKind::Push,
+        Kept::Combine(_) => NarrowingKind::Combine,
     }
 }

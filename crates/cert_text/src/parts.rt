@@ -3,13 +3,13 @@ ghost use Rattle.std.specs.Prelude.{◌≡◌, ◌≤◌, ◌+◌, ◌∷◌, []
 ghost use Rattle.std.specs.List.{AllByRecursion};
 ghost use Rattle.ival.specs.SpaceViews.{domain_of, space_of};
 ghost use Rattle.cover_line.specs.Line.{end_by};
-ghost use Rattle.cover_data.specs.Views.{closing_of, step_line, end_line};
+ghost use Rattle.cover_data.specs.Views.{closing_of, end_line, step_line};
 ghost use Rattle.cover_book.specs.Steps.{most_lemmas};
 ghost use Rattle.cover_book.specs.Tree.{lemma_tree};
 ghost use Rattle.cover_book.specs.Views.{learned_of};
 ghost use Rattle.cert_read.specs.CertLine.{rule_line};
 ghost use Rattle.cert_model.specs.Written.{domain_line, lemma_lines, point_line, rule_lines};
-ghost use Rattle.cert_text.specs.Calls.{Appends, AppendsRuled, header_of, operands_of};
+ghost use Rattle.cert_text.specs.Calls.{Appends, header_of};
 ghost use Rattle.cert_text.specs.Parts.{HasFewMarks, kept_lines, learned_lines};
 
 use crate::append::{
@@ -17,10 +17,10 @@ use crate::append::{
 };
 use crate::keyword::{Counted, Plain};
 use crate::line::append_short_rule;
-use crate::operands::Operands;
+use crate::operands::{kind_of, of_kept};
 use cover_book::{Learned, Lines};
-use cover_data::{Closing, Combination, End, Narrowing as PatchNarrowing, Options, State, Step};
-use cover_line::{Branching, Ending, Marking, Narrowing, NarrowingKind, Rule, Staying, Word};
+use cover_data::{Closing, End, Options, State, Step};
+use cover_line::{Ending, Rule, Staying, Word};
 use ival::{Domain, Space, Truths};
 use std::alloc::AllocError;
 
@@ -86,36 +86,16 @@ pub(crate) fn append_point(text: &mut Vec<u8>, point: &Space) -> Result<(), Allo
     Ok(())
 }
 
-// A line of a combination, by its first word.
-fn append_combination(
-    text: &mut Vec<u8>,
-    word: Word,
-    combination: &Combination,
-) -> Result<(), AllocError>
-    ensures { AppendsRuled text.old text.new word (operands_of combination.now) result }
-{
-    append_ruled(text, word, &Operands::Multipliers(&combination.pairs))
-}
-
 fn append_step(text: &mut Vec<u8>, step: &Step) -> Result<(), AllocError>
     ensures { Appends text.old text.new (rule_line (step_line step.now) ∷ []) result }
 {
     match step {
-        Step::Narrow(PatchNarrowing::Pull(atom)) => {
-            append_short_rule(text, &Rule::Narrow(Narrowing::Pull(*atom)))
-        }
-        Step::Narrow(PatchNarrowing::Push(atom)) => {
-            append_short_rule(text, &Rule::Narrow(Narrowing::Push(*atom)))
-        }
-        Step::Narrow(PatchNarrowing::Combine(combination)) => {
-            append_combination(text, Word::Narrow(NarrowingKind::Combine), combination)
-        }
-        Step::Mark(Marking::Unit(atom)) => {
-            append_short_rule(text, &Rule::Mark(Marking::Unit(*atom)))
-        }
-        Step::Mark(Marking::Ban(atom, lemma)) => {
-            append_short_rule(text, &Rule::Mark(Marking::Ban(*atom, *lemma)))
-        }
+        Step::Narrow(narrowing) => append_ruled(
+            text,
+            Word::Narrow(kind_of(narrowing)),
+            &of_kept(narrowing),
+        ),
+        Step::Mark(marking) => append_short_rule(text, &Rule::Mark(*marking)),
     }
 }
 
@@ -123,15 +103,11 @@ fn append_closing(text: &mut Vec<u8>, closing: &Closing) -> Result<(), AllocErro
     ensures { Appends text.old text.new (rule_line (end_by (closing_of closing.now)) ∷ []) result }
 {
     match closing {
-        Closing::Void(PatchNarrowing::Pull(atom)) => {
-            append_short_rule(text, &Rule::End(Ending::Void(Narrowing::Pull(*atom))))
-        }
-        Closing::Void(PatchNarrowing::Push(atom)) => {
-            append_short_rule(text, &Rule::End(Ending::Void(Narrowing::Push(*atom))))
-        }
-        Closing::Void(PatchNarrowing::Combine(combination)) => {
-            append_combination(text, Word::Void(NarrowingKind::Combine), combination)
-        }
+        Closing::Void(narrowing) => append_ruled(
+            text,
+            Word::Void(kind_of(narrowing)),
+            &of_kept(narrowing),
+        ),
         Closing::False => append_short_rule(text, &Rule::End(Ending::False)),
         Closing::By(lemma) => append_short_rule(text, &Rule::End(Ending::By(*lemma))),
     }
@@ -142,15 +118,7 @@ fn append_end(text: &mut Vec<u8>, end: &End) -> Result<(), AllocError>
 {
     match end {
         End::Close(closing) => append_closing(text, closing),
-        End::Part(Branching::Cut(axis, at)) => {
-            append_short_rule(text, &Rule::Branch(Branching::Cut(*axis, *at)))
-        }
-        End::Part(Branching::Flip(axis)) => {
-            append_short_rule(text, &Rule::Branch(Branching::Flip(*axis)))
-        }
-        End::Part(Branching::Case(atom)) => {
-            append_short_rule(text, &Rule::Branch(Branching::Case(*atom)))
-        }
+        End::Part(branching) => append_short_rule(text, &Rule::Branch(*branching)),
         End::Stuck(atom) => append_short_rule(text, &Rule::Stay(Staying::Stuck(*atom))),
     }
 }
