@@ -9,12 +9,12 @@ use Rattle.poly_graph.specs.Marks.{Mark, marked_yes, marked_no, unmarked, is_yes
 use Rattle.cover_model.specs.State.{State, Loosenings, in_yes, in_no, undecided, with_no, misses, margin_of, may_atom, may, domain_allows}
 use Rattle.cover_model.specs.Honest.{conjuncts, conjuncts_of, all_in_yes, is_some_space, none_empty_from, none_empty}
 use Rattle.poly_graph.specs.ProblemViews.{Parts, problem_of}
-use Rattle.cover_model.specs.Rules.{Line, narrowing}
+use Rattle.cover_model.specs.Rules.{Line, narrowing, by_range}
 use Rattle.poly_graph.proofs.Bools.{decided}
 use Rattle.cover_rule.specs.declared.refusal.PatchRefusal.{PatchRefusal}
 use Rattle.cover_rule.specs.declared.refusal.PatchRefusal.TheVariants.{NotForced, Decided, NotYes, NotFalse, Ended}
 use Rattle.cover_rule.specs.Models.{PatchModel}
-use Rattle.cover_rule.specs.Patch.{problem_in, loosenings_in, now_in, narrowing_in}
+use Rattle.cover_rule.specs.Patch.{problem_in, loosenings_in, now_in, narrowed_in}
 use Rattle.cover_rule.specs.Refusals.{unless, then_by, if_ended, unit_refusal, forced_by, void_refusal}
 use Rattle.cover_data.proofs.Withins.{undecided_at}
 use Rattle.box_worker.specs.Attempts.{Attempts, all_decided}
@@ -204,5 +204,5 @@ void-refused P j e false s h = refl
 void-refused P j e true true h = refl
 void-refused P j e true false h = absurd (some_none (then_by (if_ended P.kept) None) h (ap (λ (o : Option PatchRefusal). then_by o None) (open_not_ended P e)))
 
-pub left_next : (P Q : PatchModel) (j : ℕ) (done : PatchModel) → P.kept.end ≡ None → Attempts (void_refusal P j) P done Q false → leaves (problem_in P) (loosenings_in P) (now_in P) j (mark_at (now_in P).marks j) ≡ true
-left_next P Q j done e a = void-refused P j e (in_yes (now_in P) j) (is_some_space (narrowing_in P j)) a.0
+pub left_next : (P Q : PatchModel) (j : ℕ) (done : PatchModel) → P.kept.end ≡ None → Attempts (void_refusal P (by_range j)) P done Q false → leaves (problem_in P) (loosenings_in P) (now_in P) j (mark_at (now_in P).marks j) ≡ true
+left_next P Q j done e a = void-refused P j e (in_yes (now_in P) j) (is_some_space (narrowed_in P (by_range j))) a.0

@@ -1,7 +1,9 @@
 -- How a patch goes on.
 use Rattle.std.proofs.Common.{◌≡◌, Bool, true, false, Option, None, refl, sym, ◌∙◌, subst}
+use Rattle.std.specs.Prelude.{Result}
 use Rattle.cover_rule.specs.declared.refusal.PatchRefusal.{PatchRefusal}
 use Rattle.cover_rule.specs.Models.{PatchModel}
+use Rattle.cover_rule.specs.Refusals.{PatchAnswer, EndAnswer, AnswerIf}
 use Rattle.box_worker.specs.Attempts.{Attempts, Continues}
 
 pub continues_still : (P : PatchModel) → Continues P P
@@ -21,3 +23,8 @@ open_attempt refusal P done Q false a h k = subst (λ (Q : PatchModel). Q.kept.e
 
 pub refused : (refusal : Option PatchRefusal) (P done Q : PatchModel) (b : Bool) → b ≡ false → Attempts refusal P done Q b → Attempts refusal P done Q false
 refused refusal P done Q b e a = subst (Attempts refusal P done Q) e a
+
+-- what follows of an answer that may be for memory or not
+pub either_answer : (b : Bool) (refusal : Option PatchRefusal) (P done Q : PatchModel) (r : Result (Unit {0}) PatchRefusal) (A : Type 0) → (PatchAnswer refusal P done Q r → A) → (EndAnswer refusal P done Q r → A) → AnswerIf b refusal P done Q r → A
+either_answer true refusal P done Q r A f g h = f h
+either_answer false refusal P done Q r A f g h = g h

@@ -7,7 +7,7 @@ use Rattle.poly_graph.specs.ProblemViews.{Parts, problem_of}
 use Rattle.interval_model.specs.Space.{Space, middle, space_within}
 use Rattle.cover_model.specs.State.{State, covers, may, sure}
 use Rattle.cover_model.specs.Honest.{not_shown}
-use Rattle.cover_model.specs.Rules.{Line, make_false, by, narrow_by, by_range, by_off_range, by_combination, end_by, void_by, false_form, by_lemma, mark_by, unit_atom, ban_atom, branch_by, cut_axis, flip_axis, case_atom, stay_by, open_state, stuck_atom}
+use Rattle.cover_model.specs.Rules.{Line, make_false, narrow_by, end_by, mark_by, branch_by, stay_by}
 use Rattle.cover_model.specs.Fits.{IsShownAt}
 use Rattle.poly_graph.proofs.Bools.{not_both}
 use Rattle.cover_data.specs.declared.margins.Margins.{Margins}
@@ -86,21 +86,11 @@ work_is q m lemmas S Q z w e f g among h =
 -- ---- answers at once
 
 not-both-ends : (l : Line) → IsTrue (is_closing l) → IsTrue (leaves_some l) → ⊥
-not-both-ends (end_by (void_by (by_range j))) h k = true≢false (sym k)
-not-both-ends (end_by (void_by (by_off_range j))) h k = true≢false (sym k)
-not-both-ends (narrow_by (by_combination ms)) h k = true≢false (sym k)
-not-both-ends (end_by (void_by (by_combination ms))) h k = true≢false (sym k)
-not-both-ends (narrow_by (by_off_range j)) h k = true≢false (sym k)
-not-both-ends (end_by false_form) h k = true≢false (sym k)
-not-both-ends (end_by (by_lemma i)) h k = true≢false (sym k)
-not-both-ends (narrow_by (by_range j)) h k = true≢false (sym k)
-not-both-ends (mark_by (unit_atom j)) h k = true≢false (sym k)
-not-both-ends (mark_by (ban_atom j i)) h k = true≢false (sym k)
-not-both-ends (stay_by open_state) h k = true≢false (sym k)
-not-both-ends (branch_by (cut_axis axis c)) h k = true≢false (sym h)
-not-both-ends (branch_by (flip_axis axis)) h k = true≢false (sym h)
-not-both-ends (branch_by (case_atom j)) h k = true≢false (sym h)
-not-both-ends (stay_by (stuck_atom j)) h k = true≢false (sym h)
+not-both-ends (end_by e) h k = true≢false (sym k)
+not-both-ends (narrow_by n) h k = true≢false (sym h)
+not-both-ends (mark_by m) h k = true≢false (sym h)
+not-both-ends (branch_by b) h k = true≢false (sym h)
+not-both-ends (stay_by t) h k = true≢false (sym h)
 
 not-left : (o : Option Line) → IsTrue (closes o) → IsTrue (is_left o) → ⊥
 not-left None h k = true≢false (sym h)

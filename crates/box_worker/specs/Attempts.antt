@@ -2,7 +2,6 @@
 use Rattle.std.specs.Prelude.{◌≡◌, ℕ, ◌<◌, length, List, [], ◌∷◌, Bool, true, false, not, ◌&&◌, Option, None, IsSome, All, Contains}
 use Rattle.poly_graph.specs.ProblemViews.{Parts}
 use Rattle.interval_model.specs.Space.{is_undecided, test_axis}
-use Rattle.cover_model.specs.Combination.{Multipliers}
 use Rattle.cover_model.specs.State.{State, undecided}
 use Rattle.cover_model.specs.Honest.{not_shown, settled, conjuncts, none_empty}
 use Rattle.cover_data.specs.declared.margins.Margins.{Margins}
@@ -10,8 +9,8 @@ use Rattle.cover_rule.specs.declared.refusal.PatchRefusal.{PatchRefusal}
 use Rattle.cover_data.specs.Models.{LemmaModel}
 use Rattle.cover_rule.specs.Models.{PatchModel}
 use Rattle.cover_rule.specs.Patch.{problem_in, loosenings_in, now_in}
-use Rattle.cover_model.specs.Rules.{void, void_no, void_combine, make_false, flip, case, stuck}
-use Rattle.cover_rule.specs.Refusals.{unit_refusal, forced_by, void_refusal, void_no_refusal, void_combine_refusal, false_refusal, by_refusal, covered_by, cut_refusal, cut_by, flip_refusal, case_refusal, stuck_refusal, ended_with}
+use Rattle.cover_model.specs.Rules.{Narrowing, end_by, void_by, make_false, flip, case, stuck}
+use Rattle.cover_rule.specs.Refusals.{unit_refusal, forced_by, void_refusal, false_refusal, by_refusal, covered_by, cut_refusal, cut_by, flip_refusal, case_refusal, stuck_refusal, ended_with}
 
 -- it was done, where nothing refuses it; else the patch is as it was
 abbrev pub Attempts : Option PatchRefusal → PatchModel → PatchModel → PatchModel → Bool → Type 0
@@ -23,14 +22,8 @@ Attempts refusal old done new false = IsSome refusal × (new ≡ old)
 abbrev pub UnitAttempt : ℕ → PatchModel → PatchModel → Bool → Type 0
 UnitAttempt j P Q = Attempts (unit_refusal P j) P (forced_by P j) Q
 
-abbrev pub VoidAttempt : ℕ → PatchModel → PatchModel → Bool → Type 0
-VoidAttempt j P Q = Attempts (void_refusal P j) P (ended_with P (void j)) Q
-
-abbrev pub VoidNoAttempt : ℕ → PatchModel → PatchModel → Bool → Type 0
-VoidNoAttempt j P Q = Attempts (void_no_refusal P j) P (ended_with P (void_no j)) Q
-
-abbrev pub VoidCombineAttempt : Multipliers → PatchModel → PatchModel → Bool → Type 0
-VoidCombineAttempt ms P Q = Attempts (void_combine_refusal P ms) P (ended_with P (void_combine ms)) Q
+abbrev pub VoidAttempt : Narrowing → PatchModel → PatchModel → Bool → Type 0
+VoidAttempt n P Q = Attempts (void_refusal P n) P (ended_with P (end_by (void_by n))) Q
 
 abbrev pub FalseAttempt : PatchModel → PatchModel → Bool → Type 0
 FalseAttempt P Q = Attempts (false_refusal P) P (ended_with P make_false) Q

@@ -4,7 +4,7 @@ use Rattle.poly_graph.specs.ProblemViews.{Parts, problem_of}
 use Rattle.cover_model.specs.State.{State, covers, may}
 use Rattle.interval_model.specs.Space.{Space, middle, space_within}
 use Rattle.cover_model.specs.Honest.{not_shown}
-use Rattle.cover_model.specs.Rules.{Line, make_false, stuck, branch_by, cut_axis, flip_axis, case_atom, stay_by, stuck_atom}
+use Rattle.cover_model.specs.Rules.{Line, make_false, branch_by, stay_by, stuck_atom}
 use Rattle.cover_model.specs.Fits.{IsShownAt}
 use Rattle.cover_data.specs.declared.margins.Margins.{Margins}
 use Rattle.cover_data.specs.Margins.{loosenings_of}
@@ -23,9 +23,7 @@ first_covering lemmas S = find (λ (L : LemmaModel). covers L.state S) lemmas
 
 -- the line parts a state, or leaves it as a stuck one
 abbrev pub leaves_some : Line → Bool
-leaves_some (branch_by (cut_axis axis c)) = true
-leaves_some (branch_by (flip_axis axis)) = true
-leaves_some (branch_by (case_atom j)) = true
+leaves_some (branch_by b) = true
 leaves_some (stay_by (stuck_atom j)) = true
 leaves_some l = false
 

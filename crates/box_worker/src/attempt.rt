@@ -2,21 +2,24 @@
 ghost use Rattle.std.specs.Prelude.{◌≡◌, ◌<◌, length, Option, IfOk};
 ghost use Rattle.cover_model.specs.Fits.{FitsProblem};
 ghost use Rattle.cover_model.specs.State.{IsLemma};
-ghost use Rattle.cover_model.specs.Views.{multipliers_of};
+ghost use Rattle.cover_model.specs.Rules.{by_range};
 ghost use Rattle.cover_rule.specs.declared.refusal.PatchRefusal.{PatchRefusal as Refusal};
 ghost use Rattle.cover_rule.specs.Patch.{problem_in, loosenings_in};
 ghost use Rattle.cover_rule.specs.Models.{PatchModel};
+ghost use Rattle.cover_rule.specs.Narrowers.{NamesAtom, narrowing_of};
 ghost use Rattle.cover_rule.specs.Refusals.{EndAnswer, PatchAnswer};
-ghost use Rattle.box_worker.specs.Attempts.{Attempts, UnitAttempt, VoidAttempt, VoidNoAttempt, VoidCombineAttempt, FalseAttempt, LemmaAttempt, CutAttempt, FlipAttempt, CaseAttempt, StuckAttempt};
+ghost use Rattle.box_worker.specs.Attempts.{Attempts, UnitAttempt, VoidAttempt, FalseAttempt, LemmaAttempt, CutAttempt, FlipAttempt, CaseAttempt, StuckAttempt};
 
-use cover_rule::{Lemma, Patch, PatchRefusal};
-use dyadic::Dy;
+use cover_rule::{Lemma, Narrower, Patch, PatchRefusal};
 use std::alloc::AllocError;
 
 // Whether it was done. Out of memory is handed on.
 fn was_done(answer: Result<(), PatchRefusal>) -> Result<bool, AllocError>
-    ensures { (refusal : Option Refusal) (old done new : PatchModel) →
+    ensures done { (refusal : Option Refusal) (old done new : PatchModel) →
         PatchAnswer refusal old done new answer →
+        IfOk result (Attempts refusal old done new) }
+    ensures ended { (refusal : Option Refusal) (old done new : PatchModel) →
+        EndAnswer refusal old done new answer →
         IfOk result (Attempts refusal old done new) }
 {
     match answer {
@@ -49,27 +52,18 @@ pub fn unit(patch: &mut Patch, j: u32) -> Result<bool, AllocError>
 /// Ends the patch by atom j where it is marked yes and leaves nothing.
 pub fn void(patch: &mut Patch, j: u32) -> bool
     requires { j < length patch.old.problem.atoms }
-    ensures { VoidAttempt j patch.old patch.new result }
+    ensures { VoidAttempt (by_range j) patch.old patch.new result }
 {
-    let answer = patch.void(j);
+    let answer = patch.void(Narrower::Pull(j));
     was_ended(answer)
 }
 
-/// Ends the patch by atom j where it is marked no, is an inequality and leaves nothing.
-pub fn void_no(patch: &mut Patch, j: u32) -> bool
-    requires { j < length patch.old.problem.atoms }
-    ensures { VoidNoAttempt j patch.old patch.new result }
+/// Ends the patch where narrowing leaves nothing, and the marks allow it.
+pub fn void_by(patch: &mut Patch, by: Narrower) -> Result<bool, AllocError>
+    requires { NamesAtom patch.old.problem by }
+    ensures { IfOk result (VoidAttempt (narrowing_of by.entry) patch.old patch.new) }
 {
-    let answer = patch.void_no(j);
-    was_ended(answer)
-}
-
-/// Ends the patch by this combination, where its atoms are marked and it leaves nothing.
-pub fn void_combine(patch: &mut Patch, multipliers: &[(u32, Dy)]) -> Result<bool, AllocError>
-    ensures { IfOk result
-        (VoidCombineAttempt (multipliers_of multipliers.now) patch.old patch.new) }
-{
-    let answer = patch.void_combine(multipliers);
+    let answer = patch.void(by);
     was_done(answer)
 }
 

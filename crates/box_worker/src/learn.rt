@@ -3,7 +3,7 @@ ghost use Rattle.std.specs.Prelude.{◌≡◌, IfOk, None, map};
 ghost use Rattle.cover_data.specs.Views.{end_of, kept_of, step_line};
 ghost use Rattle.box_worker.specs.Worked.{teaches_nothing};
 
-use cover_rule::{End, KeptPatch, Lemma, Step};
+use cover_rule::{Closing, End, KeptPatch, Lemma, Step};
 use std::alloc::{AllocError, Global};
 
 // The same lemmas in memory of their own.
@@ -57,14 +57,10 @@ pub fn teaches_nothing(kept: &KeptPatch) -> bool
     ensures { result ≡ teaches_nothing (kept_of kept.now) }
 {
     match &kept.end {
-        Some(End::False) => kept.steps.is_empty(),
-        Some(End::By(_)) => true,
-        Some(End::Void(_)) => false,
-        Some(End::VoidNo(_)) => false,
-        Some(End::VoidCombine(_)) => false,
-        Some(End::Cut(_, _)) => false,
-        Some(End::Flip(_)) => false,
-        Some(End::Case(_)) => false,
+        Some(End::Close(Closing::False)) => kept.steps.is_empty(),
+        Some(End::Close(Closing::By(_))) => true,
+        Some(End::Close(Closing::Void(_))) => false,
+        Some(End::Part(_)) => false,
         Some(End::Stuck(_)) => false,
         None => false,
     }

@@ -4,6 +4,7 @@ ghost use Rattle.std.specs.Prelude.{◌≡◌, [], None, Some, IfOk, IfSome, len
 ghost use Rattle.cover_model.specs.Fits.{FitsProblem};
 ghost use Rattle.cover_model.specs.Root.{root_space};
 ghost use Rattle.cover_data.specs.Margins.{AreMargins};
+ghost use Rattle.cover_rule.specs.Narrowers.{NamesAtom};
 ghost use Rattle.cover_rule.specs.Serves.{IsNumbered};
 ghost use Rattle.poly_graph.specs.ProblemViews.{problem_of};
 ghost use Rattle.box_worker.specs.Attempts.{Continues, Repeats, StaysOpen};
@@ -12,8 +13,8 @@ ghost use Rattle.box_worker.specs.Worked.{margins_of};
 
 use crate::room::Room;
 use crate::{attempt, step};
-use cover_data::{ClosedPatch, Combination, End, KeptPatch, Step};
-use cover_rule::{Options, Patch, State};
+use cover_data::{ClosedPatch, Closing, Combination, End, KeptPatch, Narrowing, Step};
+use cover_rule::{Narrower, Options, Patch, State};
 use form_truth::{Root, root_space};
 use poly_graph::{Lits, Problem};
 use std::alloc::{AllocError, Global};
@@ -40,16 +41,24 @@ fn copy_marks(from: &State, combination: &Combination, into: &mut Lits)
     }
 }
 
+// Marks the atoms of a narrowing as the state marks them.
+fn copy_marks_by(from: &State, narrowing: &Narrowing, into: &mut Lits)
+    ensures { length into.new ≡ length into.old }
+{
+    match narrowing {
+        Narrowing::Pull(j) => copy_mark(from, *j, into),
+        Narrowing::Push(j) => copy_mark(from, *j, into),
+        Narrowing::Combine(combination) => copy_marks(from, combination, into),
+    }
+}
+
 // Marks the atoms by which a step narrows as the state marks them.
 fn copy_marks_of_step(from: &State, step: &Step, into: &mut Lits)
     ensures { length into.new ≡ length into.old }
 {
     match step {
-        Step::Pull(j) => copy_mark(from, *j, into),
-        Step::Push(j) => copy_mark(from, *j, into),
-        Step::Combine(combination) => copy_marks(from, combination, into),
-        Step::Unit(_) => {}
-        Step::Ban(_, _) => {}
+        Step::Narrow(narrowing) => copy_marks_by(from, narrowing, into),
+        Step::Mark(_) => {}
     }
 }
 
@@ -58,9 +67,7 @@ fn copy_marks_of_end(from: &State, end: &Option<End>, into: &mut Lits)
     ensures { length into.new ≡ length into.old }
 {
     match end {
-        Some(End::Void(j)) => copy_mark(from, *j, into),
-        Some(End::VoidNo(j)) => copy_mark(from, *j, into),
-        Some(End::VoidCombine(combination)) => copy_marks(from, combination, into),
+        Some(End::Close(Closing::Void(narrowing))) => copy_marks_by(from, narrowing, into),
         _ => {}
     }
 }
@@ -90,27 +97,27 @@ fn root_with(alloc: Global, problem: &Problem, marks: Lits) -> Result<Option<Sta
     }
 }
 
+// The same narrowing, where its atom is one of the patch's problem.
+fn narrower<'a>(narrowing: &'a Narrowing, patch: &Patch) -> Option<Narrower<'a>>
+    ensures { IfSome result (NamesAtom patch.now.problem) }
+{
+    let count = patch.problem().atoms().len();
+    match narrowing {
+        Narrowing::Pull(j) if (*j as usize) < count => Some(Narrower::Pull(*j)),
+        Narrowing::Push(j) if (*j as usize) < count => Some(Narrower::Push(*j)),
+        Narrowing::Combine(combination) => Some(Narrower::Combine(&combination.pairs)),
+        _ => None,
+    }
+}
+
 // Takes a step by which a run narrows once more.
 fn repeat_step(step: &Step, patch: &mut Patch) -> Result<(), AllocError>
     ensures { StaysOpen patch.old patch.new }
 {
-    let count = patch.problem().atoms().len();
-    match step {
-        Step::Pull(j) => {
-            if (*j as usize) < count {
-                step::pull(patch, *j)?;
-            }
+    if let Step::Narrow(narrowing) = step {
+        if let Some(by) = narrower(narrowing, patch) {
+            step::narrow_by(patch, by)?;
         }
-        Step::Push(j) => {
-            if (*j as usize) < count {
-                step::push(patch, *j)?;
-            }
-        }
-        Step::Combine(combination) => {
-            step::combine(patch, &combination.pairs)?;
-        }
-        Step::Unit(_) => {}
-        Step::Ban(_, _) => {}
     }
     Ok(())
 }
@@ -129,22 +136,10 @@ fn repeat_steps(steps: &[Step], patch: &mut Patch) -> Result<(), AllocError>
 fn repeat_end(end: &Option<End>, patch: &mut Patch) -> Result<(), AllocError>
     ensures { IfOk result (λ u. Continues patch.old patch.new) }
 {
-    let count = patch.problem().atoms().len();
-    match end {
-        Some(End::Void(j)) => {
-            if (*j as usize) < count {
-                attempt::void(patch, *j);
-            }
+    if let Some(End::Close(Closing::Void(narrowing))) = end {
+        if let Some(by) = narrower(narrowing, patch) {
+            attempt::void_by(patch, by)?;
         }
-        Some(End::VoidNo(j)) => {
-            if (*j as usize) < count {
-                attempt::void_no(patch, *j);
-            }
-        }
-        Some(End::VoidCombine(combination)) => {
-            attempt::void_combine(patch, &combination.pairs)?;
-        }
-        _ => {}
     }
     Ok(())
 }
@@ -162,10 +157,7 @@ fn repeat(run: &KeptPatch, patch: &mut Patch) -> Result<(), AllocError>
 
 // Whether a run ended by an atom or a combination that leaves nothing, after few enough steps.
 fn is_worth(run: &KeptPatch) -> bool {
-    let leaves_nothing = matches!(
-        run.end,
-        Some(End::Void(_)) | Some(End::VoidNo(_)) | Some(End::VoidCombine(_))
-    );
+    let leaves_nothing = matches!(run.end, Some(End::Close(Closing::Void(_))));
     leaves_nothing && run.steps.len() <= MOST_STEPS
 }
 

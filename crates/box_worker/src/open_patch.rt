@@ -5,7 +5,7 @@ ghost use Rattle.box_worker.specs.OpenPatch.{IsOpenFor, open_model};
 ghost use Rattle.box_worker.specs.Worked.{AreLemmasFor};
 
 use crate::step::{self, Outcome};
-use cover_rule::{Lemma, Patch};
+use cover_rule::{Lemma, Narrower, Patch};
 use dyadic::Dy;
 use std::alloc::AllocError;
 use std::marker::Model;
@@ -80,7 +80,7 @@ impl<'a, 'b> OpenPatch<'a, 'b> {
     pub fn combine(&mut self, multipliers: &[(u32, Dy)]) -> Result<Outcome, AllocError>
         ensures { self.new ≡ self.old }
     {
-        step::combine(&mut self.patch, multipliers)
+        step::narrow_by(&mut self.patch, Narrower::Combine(multipliers))
     }
 
     /// Marks atom j yes where the form can't hold without it.

@@ -6,7 +6,7 @@ ghost use Rattle.box_worker.specs.Attempts.{Continues, conjuncts_are_decided, no
 use crate::attempt;
 use crate::facts::run_is_lawful;
 use crate::scout::Emptied;
-use cover_rule::Patch;
+use cover_rule::{Narrower, Patch};
 use form_truth::{Marks, conjuncts_in_yes};
 use std::alloc::{AllocError, Global};
 
@@ -47,16 +47,16 @@ pub fn void_any(patch: &mut Patch) -> bool
 }
 
 // Ends the patch by atom j, where it is marked and leaves nothing.
-fn void_by(j: u32, patch: &mut Patch) -> bool
+fn void_by(j: u32, patch: &mut Patch) -> Result<bool, AllocError>
     requires { j < length patch.old.problem.atoms }
-    ensures continues { Continues patch.old patch.new }
-    ensures closed { result ≡ true → IsClosed patch.new.kept }
-    ensures same { result ≡ false → patch.new ≡ patch.old }
+    ensures continues { IfOk result (λ b. Continues patch.old patch.new) }
+    ensures closed { IfOk result (λ b. b ≡ true → IsClosed patch.new.kept) }
+    ensures same { IfOk result (λ b. b ≡ false → patch.new ≡ patch.old) }
 {
     if attempt::void(patch, j) {
-        return true;
+        return Ok(true);
     }
-    attempt::void_no(patch, j)
+    attempt::void_by(patch, Narrower::Push(j))
 }
 
 // Ends the patch by this atom or combination, where there is such a one that leaves nothing.
@@ -68,12 +68,14 @@ fn void_at(by: &Option<Emptied>, patch: &mut Patch) -> Result<bool, AllocError>
     match by {
         Some(Emptied::Atom(j)) => {
             if (*j as usize) < patch.problem().atoms().len() {
-                Ok(void_by(*j, patch))
+                void_by(*j, patch)
             } else {
                 Ok(false)
             }
         }
-        Some(Emptied::Combination(multipliers)) => attempt::void_combine(patch, multipliers),
+        Some(Emptied::Combination(multipliers)) => {
+            attempt::void_by(patch, Narrower::Combine(multipliers))
+        }
         Some(Emptied::Form) | None => Ok(false),
     }
 }

@@ -1,10 +1,10 @@
 // Steps of an open patch, by which it stays open.
 ghost use Rattle.std.specs.Prelude.{◌<◌, length};
+ghost use Rattle.cover_rule.specs.Narrowers.{NamesAtom};
 ghost use Rattle.box_worker.specs.Attempts.{StaysOpen};
 ghost use Rattle.box_worker.specs.OpenPatch.{IsOpenFor, IsUnderWay, open_model};
 
-use cover_rule::{Lemma, Patch, PatchRefusal, State};
-use dyadic::Dy;
+use cover_rule::{Lemma, Narrower, Patch, PatchRefusal, State};
 use poly_graph::Mark;
 use std::alloc::AllocError;
 
@@ -30,21 +30,12 @@ fn outcome_of(answer: Result<bool, PatchRefusal>) -> Result<Outcome, AllocError>
     }
 }
 
-/// Pulls atom j where it is marked yes and leaves less of the space.
-pub fn pull(patch: &mut Patch, j: u32) -> Result<Outcome, AllocError>
-    requires { j < length patch.old.problem.atoms }
+/// Narrows the space where the marks allow it, if that leaves less of it.
+pub fn narrow_by(patch: &mut Patch, by: Narrower) -> Result<Outcome, AllocError>
+    requires { NamesAtom patch.old.problem by }
     ensures { StaysOpen patch.old patch.new }
 {
-    let answer = patch.pull_if_less(j);
-    outcome_of(answer)
-}
-
-/// Pushes atom j where it is marked no, is an inequality and leaves less of the space.
-pub fn push(patch: &mut Patch, j: u32) -> Result<Outcome, AllocError>
-    requires { j < length patch.old.problem.atoms }
-    ensures { StaysOpen patch.old patch.new }
-{
-    let answer = patch.push_if_less(j);
+    let answer = patch.narrow_if_less(by);
     outcome_of(answer)
 }
 
@@ -61,18 +52,10 @@ pub fn narrow(patch: &mut Patch, j: u32) -> Result<Outcome, AllocError>
     ensures { StaysOpen patch.old patch.new }
 {
     if is_no(patch.reached(), j) {
-        push(patch, j)
+        narrow_by(patch, Narrower::Push(j))
     } else {
-        pull(patch, j)
+        narrow_by(patch, Narrower::Pull(j))
     }
-}
-
-/// Combines these atoms where they are marked, if that leaves less of the space.
-pub fn combine(patch: &mut Patch, multipliers: &[(u32, Dy)]) -> Result<Outcome, AllocError>
-    ensures { StaysOpen patch.old patch.new }
-{
-    let answer = patch.combine_if_less(multipliers);
-    outcome_of(answer)
 }
 
 /// Marks atom j yes where the form can't hold without it.

@@ -9,7 +9,7 @@ use Rattle.interval_model.specs.Space.{real_domain, bool_domain}
 use Rattle.poly_graph.specs.Problem.{Declared, real_between, any_bool, Axis, Problem, crosses}
 use Rattle.cover_line.specs.Words.{word_of}
 use Rattle.cover_model.specs.State.{State, Loosenings, root_state}
-use Rattle.cover_model.specs.Rules.{Line, by, Left, closed, one, two, stays, when, pulled, voided, rule, narrow_by, by_range, by_off_range, by_combination, end_by, void_by, false_form, by_lemma, mark_by, unit_atom, ban_atom, branch_by, cut_axis, flip_axis, case_atom, stay_by, open_state, stuck_atom}
+use Rattle.cover_model.specs.Rules.{Line, narrow_by, end_by, void_by, false_form, by_lemma, mark_by, branch_by, stay_by, Left, closed, one, two, stays, when, pulled, voided, rule}
 use Rattle.cert_read.specs.CertLine.{says_both, says_false, says_true, CertLine, version, margin, delta, bound, cover, point_word, tree_word, end_word, lemma, real_interval, real_value, bool_value, yes_list, no_list, rule_line, crossing}
 use Rattle.cert_model.specs.Due.{CertFault, BadHeader, BadNumber, Missing, WrongBound, NotShown, RuleFails, Standing, Value, at_point, left_open, Due, version_due, margin_due, delta_due, bound_due, kind_due, next_due, axis_due, yes_due, no_due, lemma_due, root_due, tree_due, coordinate_due, end_due, nothing_due, Next, on, faulty, given, is_version, same_bound, ascends, apart, all_below, names_well, after_rule, after_lemma_rule, tree_goes_on, lemma_goes_on, axis_next, coordinate_next, is_crossed_box, is_shown}
 use Rattle.cert_model.specs.Accepted.{next, loosenings_fit, ruled_line, tree_line, root_line, axis_line, coordinate_line, no_crossing, most_lemmas}
@@ -46,21 +46,13 @@ voided-agrees None = refl
 voided-agrees (Some space) = tt
 
 leaves : (p : Problem) (s : Loosenings) (lemmas : List State) (S : State) (l : Line) → Agrees (rule p s lemmas S l) (is_leaving l)
-leaves p s lemmas S (narrow_by (by_range j)) = cond-agrees _ (pulled S _) false (pulled-agrees S _)
-leaves p s lemmas S (mark_by (unit_atom j)) = when-agrees _ _ false refl
-leaves p s lemmas S (mark_by (ban_atom j i)) = when-agrees _ _ false refl
-leaves p s lemmas S (end_by (void_by (by_range j))) = cond-agrees _ (voided _) false (voided-agrees _)
-leaves p s lemmas S (narrow_by (by_off_range j)) = cond-agrees _ (pulled S _) false (pulled-agrees S _)
-leaves p s lemmas S (end_by (void_by (by_off_range j))) = cond-agrees _ (voided _) false (voided-agrees _)
-leaves p s lemmas S (narrow_by (by_combination ms)) = cond-agrees _ (pulled S _) false (pulled-agrees S _)
-leaves p s lemmas S (end_by (void_by (by_combination ms))) = cond-agrees _ (voided _) false (voided-agrees _)
+leaves p s lemmas S (narrow_by n) = cond-agrees _ (pulled S _) false (pulled-agrees S _)
+leaves p s lemmas S (end_by (void_by n)) = cond-agrees _ (voided _) false (voided-agrees _)
 leaves p s lemmas S (end_by false_form) = when-agrees _ closed false refl
 leaves p s lemmas S (end_by (by_lemma i)) = when-agrees _ closed false refl
-leaves p s lemmas S (branch_by (cut_axis axis c)) = when-agrees _ _ false refl
-leaves p s lemmas S (branch_by (flip_axis axis)) = when-agrees _ _ false refl
-leaves p s lemmas S (branch_by (case_atom j)) = when-agrees _ _ false refl
-leaves p s lemmas S (stay_by open_state) = refl
-leaves p s lemmas S (stay_by (stuck_atom j)) = when-agrees _ stays true refl
+leaves p s lemmas S (mark_by m) = when-agrees _ _ false refl
+leaves p s lemmas S (branch_by b) = when-agrees _ _ false refl
+leaves p s lemmas S (stay_by t) = when-agrees _ stays true refl
 
 -- ---- lists
 

@@ -50,7 +50,7 @@ fn contract(
         (are_there (problem_of problem.now) (narrowing_operands (narrowing_of narrowing.now))) }
     ensures space { IsNarrowed (space_of state.old.space) (space_of state.new.space)
         (narrowed_to (problem_of problem.now) (loosenings_of s) (state_of state.old)
-            (narrowing_of narrowing.now))
+        (narrowing_of narrowing.now))
         result }
     ensures marks { state.new.lits ≡ state.old.lits }
     ensures serves { Serves problem.now tools.new }

@@ -1,5 +1,5 @@
 -- The first word of a line of a tree, and the number of its lemma.
-use Rattle.std.proofs.Common.{◌≡◌, ◌<◌, ◌≤◌, ◌^◌, ℕ, inl, inr, List, [], ◌∷◌, ◌++◌, true, false, not, ◌||◌, nat_eq, IsTrue, Option, Some, None, codes, cond, refl, ap, ap₂, sym, ◌∙◌, length, get_or, subst, ⊎_elim, append_assoc, arith}
+use Rattle.std.proofs.Common.{◌≡◌, ◌<◌, ◌≤◌, ◌^◌, ℕ, ◌⊎◌, inl, inr, List, [], ◌∷◌, ◌++◌, true, false, not, ◌||◌, nat_eq, IsTrue, Option, Some, None, codes, cond, refl, ap, ap₂, sym, ◌∙◌, length, get_or, subst, ⊎_elim, append_assoc, arith}
 use Rattle.std.specs.Prelude.{Bool, decimal, is_some, slice_get, IfSome, Ok}
 use Rattle.std.specs.Str.{bytes_eq, all_ascii_digits}
 use Rattle.std.specs.Str.Parse.{digits_value}
@@ -15,29 +15,101 @@ use Rattle.cert_read.specs.LineText.{IsSpelled, spaced, line_words, line_text}
 use Rattle.cert_read.specs.Lines.{words_of}
 use Rattle.cert_read.proofs.Pieces.{lacks}
 use Rattle.cert_joined.specs.Covers.{line_by, numbered}
+use Rattle.cert_join.specs.declared.line.Left.{Left}
 use Rattle.cert_join.specs.declared.line.Left.TheVariants.{Nothing, One, Open}
+use Rattle.cert_join.specs.declared.numbering.Kind.TheVariants.{Other}
+use Rattle.cert_join.specs.Numbered.{word_kind}
 use Rattle.cert_join.specs.Kinds.{kind_of_word, left_kind, rule_text, lemma_front, lemma_named, does_name, lemma_named_in, number_among, renumbered, IsRenumbered}
 use Rattle.cert_join.proofs.Spaced.{both_pass, split_spaced}
 
--- ---- the first word
+-- ---- what a first word tells
 
-word-lacks : (w : RuleWord) → IsTrue (lacks 32 (word_text w))
-word-lacks empty_word = refl
-word-lacks pull_word = refl
-word-lacks unit_word = refl
-word-lacks ban_word = refl
-word-lacks void_word = refl
-word-lacks push_word = refl
-word-lacks void_no_word = refl
-word-lacks false_word = refl
-word-lacks by_word = refl
-word-lacks cut_word = refl
-word-lacks flip_word = refl
-word-lacks case_word = refl
-word-lacks open_word = refl
-word-lacks stuck_word = refl
-word-lacks combine_word = refl
-word-lacks void_combine_word = refl
+-- whether it leads a line that names a lemma
+abbrev pub names_by_word : RuleWord → Bool
+names_by_word by_word = true
+names_by_word ban_word = true
+names_by_word w = false
+
+abbrev pub is_naming_text : List ℕ → Bool
+is_naming_text w = bytes_eq w (word_text by_word) || bytes_eq w (word_text ban_word)
+
+abbrev pub decoded : List ℕ → RuleWord
+decoded w = cond (bytes_eq w (word_text void_combine_word)) void_combine_word (cond (bytes_eq w (word_text combine_word)) combine_word (cond (bytes_eq w (word_text stuck_word)) stuck_word (cond (bytes_eq w (word_text open_word)) open_word (cond (bytes_eq w (word_text case_word)) case_word (cond (bytes_eq w (word_text flip_word)) flip_word (cond (bytes_eq w (word_text cut_word)) cut_word (cond (bytes_eq w (word_text by_word)) by_word (cond (bytes_eq w (word_text false_word)) false_word (cond (bytes_eq w (word_text void_no_word)) void_no_word (cond (bytes_eq w (word_text push_word)) push_word (cond (bytes_eq w (word_text void_word)) void_word (cond (bytes_eq w (word_text ban_word)) ban_word (cond (bytes_eq w (word_text unit_word)) unit_word (cond (bytes_eq w (word_text pull_word)) pull_word empty_word))))))))))))))
+
+-- The spelling of a rule's word tells which word it is.
+pub record IsWordTold (w : RuleWord) : Type 0 where
+  pub one : IsTrue (lacks 32 (word_text w))
+  pub which : decoded (word_text w) ≡ w
+  pub names : is_naming_text (word_text w) ≡ names_by_word w
+  -- no word of a lemma's or a certificate's own lines
+  pub other : word_kind (word_text w) ≡ Other
+  pub no_tree : bytes_eq (word_text w) (codes "tree") ≡ false
+
+pub word_told : (w : RuleWord) → IsWordTold w
+word_told empty_word = record { one = refl; which = refl; names = refl; other = refl; no_tree = refl }
+word_told pull_word = record { one = refl; which = refl; names = refl; other = refl; no_tree = refl }
+word_told unit_word = record { one = refl; which = refl; names = refl; other = refl; no_tree = refl }
+word_told ban_word = record { one = refl; which = refl; names = refl; other = refl; no_tree = refl }
+word_told void_word = record { one = refl; which = refl; names = refl; other = refl; no_tree = refl }
+word_told push_word = record { one = refl; which = refl; names = refl; other = refl; no_tree = refl }
+word_told void_no_word = record { one = refl; which = refl; names = refl; other = refl; no_tree = refl }
+word_told false_word = record { one = refl; which = refl; names = refl; other = refl; no_tree = refl }
+word_told by_word = record { one = refl; which = refl; names = refl; other = refl; no_tree = refl }
+word_told cut_word = record { one = refl; which = refl; names = refl; other = refl; no_tree = refl }
+word_told flip_word = record { one = refl; which = refl; names = refl; other = refl; no_tree = refl }
+word_told case_word = record { one = refl; which = refl; names = refl; other = refl; no_tree = refl }
+word_told open_word = record { one = refl; which = refl; names = refl; other = refl; no_tree = refl }
+word_told stuck_word = record { one = refl; which = refl; names = refl; other = refl; no_tree = refl }
+word_told combine_word = record { one = refl; which = refl; names = refl; other = refl; no_tree = refl }
+word_told void_combine_word = record { one = refl; which = refl; names = refl; other = refl; no_tree = refl }
+
+-- no two words have one spelling
+pub same_word : (v w : RuleWord) → word_text v ≡ word_text w → v ≡ w
+same_word v w e = sym (word_told v).which ∙ ap (λ (t : List ℕ). decoded t) e ∙ (word_told w).which
+
+abbrev IsTold : Left → Bool → RuleWord → Type 0
+IsTold k b w = (kind_of_word w ≡ k) × (names_by_word w ≡ b)
+
+narrowing-told : (n : Narrowing) → IsTold One false (narrowing_word n)
+narrowing-told (by_range j) = (refl, refl)
+narrowing-told (by_off_range j) = (refl, refl)
+narrowing-told (by_combination ms) = (refl, refl)
+
+voiding-told : (n : Narrowing) → IsTold Nothing false (voiding_word n)
+voiding-told (by_range j) = (refl, refl)
+voiding-told (by_off_range j) = (refl, refl)
+voiding-told (by_combination ms) = (refl, refl)
+
+-- the first word of a line tells what the line leaves, and whether it names a lemma
+line-told : (r : Line) → IsTold (left_kind r) (does_name (rule_line r)) (word_of r)
+line-told (narrow_by n) = narrowing-told n
+line-told (end_by (void_by n)) = voiding-told n
+line-told (end_by false_form) = (refl, refl)
+line-told (end_by (by_lemma i)) = (refl, refl)
+line-told (mark_by (unit_atom j)) = (refl, refl)
+line-told (mark_by (ban_atom j i)) = (refl, refl)
+line-told (branch_by (cut_axis axis c)) = (refl, refl)
+line-told (branch_by (flip_axis axis)) = (refl, refl)
+line-told (branch_by (case_atom j)) = (refl, refl)
+line-told (stay_by open_state) = (refl, refl)
+line-told (stay_by (stuck_atom j)) = (refl, refl)
+
+pub word_leaves : (r : Line) → kind_of_word (word_of r) ≡ left_kind r
+word_leaves r = (line-told r).0
+
+open-text : (r : Line) → left_kind r ≡ Open → rule_text r ≡ word_text open_word
+open-text (narrow_by n) e = absurd (cc)
+open-text (end_by k) e = absurd (cc)
+open-text (mark_by m) e = absurd (cc)
+open-text (branch_by b) e = absurd (cc)
+open-text (stay_by open_state) e = refl
+open-text (stay_by (stuck_atom j)) e = absurd (cc)
+
+-- a line that leaves its state open is that word alone
+pub open_alone : (r : Line) → open_word ≡ word_of r → rule_text r ≡ word_text open_word
+open_alone r e = open-text r (sym (word_leaves r) ∙ ap kind_of_word (sym e))
+
+-- ---- the first word
 
 -- the first word of a line, and the others
 abbrev pub first_of : CertLine → List ℕ
@@ -70,201 +142,45 @@ behind-first (w ∷ ws) = ws
 abbrev others_of : CertLine → List (List ℕ)
 others_of l = behind-first (line_words l)
 
-parted : (l : CertLine) → line_text l ≡ spaced (first_of l ∷ others_of l)
-parted (version n) = refl
-parted (margin m) = refl
-parted (delta d) = refl
-parted (bound b) = refl
-parted (lower d) = refl
-parted (goal n) = refl
-parted (checks n) = refl
-parted (cover k) = refl
-parted (keep q) = refl
-parted point_word = refl
-parted tree_word = refl
-parted end_word = refl
-parted (lemma i) = refl
-parted (real_interval l h) = refl
-parted (real_value v) = refl
-parted (bool_value w) = refl
-parted (yes_list js) = refl
-parted (no_list js) = refl
-parted (rule_line l) = refl
-parted over = refl
-parted (crossing i) = refl
-
-first-lacks : (l : CertLine) → IsTrue (lacks 32 (first_of l))
-first-lacks (version n) = refl
-first-lacks (margin m) = refl
-first-lacks (delta d) = refl
-first-lacks (bound b) = refl
-first-lacks (lower d) = refl
-first-lacks (goal n) = refl
-first-lacks (checks n) = refl
-first-lacks (cover k) = refl
-first-lacks (keep q) = refl
-first-lacks point_word = refl
-first-lacks tree_word = refl
-first-lacks end_word = refl
-first-lacks (lemma i) = refl
-first-lacks (real_interval l h) = refl
-first-lacks (real_value v) = refl
-first-lacks (bool_value w) = refl
-first-lacks (yes_list js) = refl
-first-lacks (no_list js) = refl
-first-lacks (rule_line l) = word-lacks (word_of l)
-first-lacks over = refl
-first-lacks (crossing i) = refl
+-- the line is its first word and the others, and the first one tells whether the line names a lemma
+parted : (l : CertLine) → (line_text l ≡ spaced (first_of l ∷ others_of l)) × IsTrue (lacks 32 (first_of l)) × (is_naming_text (first_of l) ≡ does_name l)
+parted (version n) = (refl, refl, refl)
+parted (margin m) = (refl, refl, refl)
+parted (delta d) = (refl, refl, refl)
+parted (bound b) = (refl, refl, refl)
+parted (lower d) = (refl, refl, refl)
+parted (goal n) = (refl, refl, refl)
+parted (checks n) = (refl, refl, refl)
+parted (cover k) = (refl, refl, refl)
+parted (keep q) = (refl, refl, refl)
+parted point_word = (refl, refl, refl)
+parted tree_word = (refl, refl, refl)
+parted end_word = (refl, refl, refl)
+parted (lemma i) = (refl, refl, refl)
+parted (real_interval l h) = (refl, refl, refl)
+parted (real_value v) = (refl, refl, refl)
+parted (bool_value w) = (refl, refl, refl)
+parted (yes_list js) = (refl, refl, refl)
+parted (no_list js) = (refl, refl, refl)
+parted (rule_line r) = (refl, (word_told (word_of r)).one, (word_told (word_of r)).names ∙ (line-told r).1)
+parted over = (refl, refl, refl)
+parted (crossing i) = (refl, refl, refl)
 
 pub first_of_line : (l : CertLine) (text w : List ℕ) (ws : List (List ℕ)) → words_of text ≡ w ∷ ws → text ≡ line_text l → w ≡ first_of l
 first_of_line l text w ws e h =
-    let f = split_spaced (first_of l) (others_of l) (first-lacks l) in
-    let g : w ∷ ws ≡ first_of l ∷ f.0 = sym e ∙ ap words_of (h ∙ parted l) ∙ f.1 in cc
+    let f = split_spaced (first_of l) (others_of l) (parted l).1 in
+    let g : w ∷ ws ≡ first_of l ∷ f.0 = sym e ∙ ap words_of (h ∙ (parted l).0) ∙ f.1 in cc
 
 pub first_of_rule : (r : Line) (text w : List ℕ) (ws : List (List ℕ)) → words_of text ≡ w ∷ ws → text ≡ rule_text r → w ≡ word_text (word_of r)
 first_of_rule r = first_of_line (rule_line r)
 
 -- ---- whether it names a lemma
 
-abbrev names_by_word : RuleWord → Bool
-names_by_word by_word = true
-names_by_word ban_word = true
-names_by_word w = false
-
-names_by_text : (v : RuleWord) → (bytes_eq (word_text v) (word_text by_word) || bytes_eq (word_text v) (word_text ban_word)) ≡ names_by_word v
-names_by_text empty_word = refl
-names_by_text pull_word = refl
-names_by_text unit_word = refl
-names_by_text ban_word = refl
-names_by_text void_word = refl
-names_by_text push_word = refl
-names_by_text void_no_word = refl
-names_by_text false_word = refl
-names_by_text by_word = refl
-names_by_text cut_word = refl
-names_by_text flip_word = refl
-names_by_text case_word = refl
-names_by_text open_word = refl
-names_by_text stuck_word = refl
-names_by_text combine_word = refl
-names_by_text void_combine_word = refl
-
--- ---- what the first word tells
-
-abbrev decoded : List ℕ → RuleWord
-decoded w = cond (bytes_eq w (word_text void_combine_word)) void_combine_word (cond (bytes_eq w (word_text combine_word)) combine_word (cond (bytes_eq w (word_text stuck_word)) stuck_word (cond (bytes_eq w (word_text open_word)) open_word (cond (bytes_eq w (word_text case_word)) case_word (cond (bytes_eq w (word_text flip_word)) flip_word (cond (bytes_eq w (word_text cut_word)) cut_word (cond (bytes_eq w (word_text by_word)) by_word (cond (bytes_eq w (word_text false_word)) false_word (cond (bytes_eq w (word_text void_no_word)) void_no_word (cond (bytes_eq w (word_text push_word)) push_word (cond (bytes_eq w (word_text void_word)) void_word (cond (bytes_eq w (word_text ban_word)) ban_word (cond (bytes_eq w (word_text unit_word)) unit_word (cond (bytes_eq w (word_text pull_word)) pull_word empty_word))))))))))))))
-
-decoded-text : (v : RuleWord) → decoded (word_text v) ≡ v
-decoded-text empty_word = refl
-decoded-text pull_word = refl
-decoded-text unit_word = refl
-decoded-text ban_word = refl
-decoded-text void_word = refl
-decoded-text push_word = refl
-decoded-text void_no_word = refl
-decoded-text false_word = refl
-decoded-text by_word = refl
-decoded-text cut_word = refl
-decoded-text flip_word = refl
-decoded-text case_word = refl
-decoded-text open_word = refl
-decoded-text stuck_word = refl
-decoded-text combine_word = refl
-decoded-text void_combine_word = refl
-
--- no two words have one spelling
-pub same_word : (v w : RuleWord) → word_text v ≡ word_text w → v ≡ w
-same_word v w e = sym (decoded-text v) ∙ ap (λ (t : List ℕ). decoded t) e ∙ decoded-text w
-
--- what a narrowing's word tells, and the word of a box that it empties
-narrowing-leaves : (n : Narrowing) → kind_of_word (narrowing_word n) ≡ One
-narrowing-leaves (by_range j) = refl
-narrowing-leaves (by_off_range j) = refl
-narrowing-leaves (by_combination ms) = refl
-
-voiding-leaves : (n : Narrowing) → kind_of_word (voiding_word n) ≡ Nothing
-voiding-leaves (by_range j) = refl
-voiding-leaves (by_off_range j) = refl
-voiding-leaves (by_combination ms) = refl
-
--- the first word of a line tells what the line leaves
-pub word_leaves : (r : Line) → kind_of_word (word_of r) ≡ left_kind r
-word_leaves (narrow_by n) = narrowing-leaves n
-word_leaves (end_by (void_by n)) = voiding-leaves n
-word_leaves (end_by false_form) = refl
-word_leaves (end_by (by_lemma i)) = refl
-word_leaves (mark_by (unit_atom j)) = refl
-word_leaves (mark_by (ban_atom j i)) = refl
-word_leaves (branch_by (cut_axis axis c)) = refl
-word_leaves (branch_by (flip_axis axis)) = refl
-word_leaves (branch_by (case_atom j)) = refl
-word_leaves (stay_by open_state) = refl
-word_leaves (stay_by (stuck_atom j)) = refl
-
-open-text : (r : Line) → left_kind r ≡ Open → rule_text r ≡ word_text open_word
-open-text (narrow_by n) e = absurd (cc)
-open-text (end_by k) e = absurd (cc)
-open-text (mark_by m) e = absurd (cc)
-open-text (branch_by b) e = absurd (cc)
-open-text (stay_by open_state) e = refl
-open-text (stay_by (stuck_atom j)) e = absurd (cc)
-
--- a line that leaves its state open is that word alone
-pub open_alone : (r : Line) → open_word ≡ word_of r → rule_text r ≡ word_text open_word
-open_alone r e = open-text r (sym (word_leaves r) ∙ ap kind_of_word (sym e))
-
-names-narrowing : (n : Narrowing) → names_by_word (narrowing_word n) ≡ false
-names-narrowing (by_range j) = refl
-names-narrowing (by_off_range j) = refl
-names-narrowing (by_combination ms) = refl
-
-names-voiding : (n : Narrowing) → names_by_word (voiding_word n) ≡ false
-names-voiding (by_range j) = refl
-names-voiding (by_off_range j) = refl
-names-voiding (by_combination ms) = refl
-
--- the first word of a line tells whether the line names a lemma
-names-word : (r : Line) → names_by_word (word_of r) ≡ does_name (rule_line r)
-names-word (narrow_by n) = names-narrowing n
-names-word (end_by (void_by n)) = names-voiding n
-names-word (end_by false_form) = refl
-names-word (end_by (by_lemma i)) = refl
-names-word (mark_by (unit_atom j)) = refl
-names-word (mark_by (ban_atom j i)) = refl
-names-word (branch_by (cut_axis axis c)) = refl
-names-word (branch_by (flip_axis axis)) = refl
-names-word (branch_by (case_atom j)) = refl
-names-word (stay_by open_state) = refl
-names-word (stay_by (stuck_atom j)) = refl
-
-pub names_first : (l : CertLine) → (bytes_eq (first_of l) (word_text by_word) || bytes_eq (first_of l) (word_text ban_word)) ≡ does_name l
-names_first (version n) = refl
-names_first (margin m) = refl
-names_first (delta d) = refl
-names_first (bound b) = refl
-names_first (lower d) = refl
-names_first (goal n) = refl
-names_first (checks n) = refl
-names_first (cover k) = refl
-names_first (keep q) = refl
-names_first point_word = refl
-names_first tree_word = refl
-names_first end_word = refl
-names_first (lemma i) = refl
-names_first (real_interval l h) = refl
-names_first (real_value v) = refl
-names_first (bool_value w) = refl
-names_first (yes_list js) = refl
-names_first (no_list js) = refl
-names_first (rule_line l) = names_by_text (word_of l) ∙ names-word l
-names_first over = refl
-names_first (crossing i) = refl
-
 pub names_from : (l : CertLine) (text w : List ℕ) (ws : List (List ℕ)) → words_of text ≡ w ∷ ws → text ≡ line_text l
     → (t u : List ℕ) → t ≡ word_text by_word → u ≡ word_text ban_word → (bytes_eq w t || bytes_eq w u) ≡ does_name l
 names_from l text w ws e h t u f g =
     ap (λ (x : List ℕ). bytes_eq x t || bytes_eq x u) (first_of_line l text w ws e h)
-    ∙ ap₂ (λ (y z : List ℕ). bytes_eq (first_of l) y || bytes_eq (first_of l) z) f g ∙ names_first l
+    ∙ ap₂ (λ (y z : List ℕ). bytes_eq (first_of l) y || bytes_eq (first_of l) z) f g ∙ (parted l).2
 
 -- a line that names no lemma is the same with other numbers
 same-without : (f : ℕ → ℕ) (r : Line) → lemma_named r ≡ None → line_by f r ≡ r
@@ -277,28 +193,29 @@ same-without f (mark_by (ban_atom j i)) h = absurd (cc)
 same-without f (branch_by b) h = refl
 same-without f (stay_by t) h = refl
 
-same-unnamed : (f : ℕ → ℕ) (l : CertLine) → lemma_named_in l ≡ None → renumbered f l ≡ l
-same-unnamed f (version n) h = refl
-same-unnamed f (margin m) h = refl
-same-unnamed f (delta d) h = refl
-same-unnamed f (bound b) h = refl
-same-unnamed f (lower d) h = refl
-same-unnamed f (goal n) h = refl
-same-unnamed f (checks n) h = refl
-same-unnamed f (cover k) h = refl
-same-unnamed f (keep q) h = refl
-same-unnamed f point_word h = refl
-same-unnamed f tree_word h = refl
-same-unnamed f end_word h = refl
-same-unnamed f (lemma i) h = refl
-same-unnamed f (real_interval l u) h = refl
-same-unnamed f (real_value v) h = refl
-same-unnamed f (bool_value w) h = refl
-same-unnamed f (yes_list js) h = refl
-same-unnamed f (no_list js) h = refl
-same-unnamed f (rule_line r) h = ap rule_line (same-without f r h)
-same-unnamed f over h = refl
-same-unnamed f (crossing i) h = refl
+-- a line of a tree, or one that names no lemma
+rule-or-same : (f : ℕ → ℕ) (l : CertLine) → ((r : Line) × (l ≡ rule_line r)) ⊎ ((lemma_named_in l ≡ None) × (renumbered f l ≡ l))
+rule-or-same f (version n) = inr (refl, refl)
+rule-or-same f (margin m) = inr (refl, refl)
+rule-or-same f (delta d) = inr (refl, refl)
+rule-or-same f (bound b) = inr (refl, refl)
+rule-or-same f (lower d) = inr (refl, refl)
+rule-or-same f (goal n) = inr (refl, refl)
+rule-or-same f (checks n) = inr (refl, refl)
+rule-or-same f (cover k) = inr (refl, refl)
+rule-or-same f (keep q) = inr (refl, refl)
+rule-or-same f point_word = inr (refl, refl)
+rule-or-same f tree_word = inr (refl, refl)
+rule-or-same f end_word = inr (refl, refl)
+rule-or-same f (lemma i) = inr (refl, refl)
+rule-or-same f (real_interval l h) = inr (refl, refl)
+rule-or-same f (real_value v) = inr (refl, refl)
+rule-or-same f (bool_value w) = inr (refl, refl)
+rule-or-same f (yes_list js) = inr (refl, refl)
+rule-or-same f (no_list js) = inr (refl, refl)
+rule-or-same f (rule_line r) = inl (r, refl)
+rule-or-same f over = inr (refl, refl)
+rule-or-same f (crossing i) = inr (refl, refl)
 
 none-is : (o : Option ℕ) → is_some o ≡ false → o ≡ None
 none-is None e = refl
@@ -309,30 +226,18 @@ some-is None e = absurd (cc)
 some-is (Some i) e = (i, refl)
 
 pub none_named : (l : CertLine) → does_name l ≡ false → (f : ℕ → ℕ) → (lemma_named_in l ≡ None) × (renumbered f l ≡ l)
-none_named l h f = let e = none-is (lemma_named_in l) h in (e, same-unnamed f l e)
+none_named l h f = elim (rule-or-same f l) [
+  | inl (r, e) ↦
+      let none = none-is (lemma_named_in l) h in
+      (none, ap (renumbered f) e ∙ ap rule_line (same-without f r (sym (ap lemma_named_in e) ∙ none)) ∙ sym e)
+  | inr q ↦ q
+]
 
 pub one_named : (l : CertLine) → does_name l ≡ true → (r : Line) × (i : ℕ) × (l ≡ rule_line r) × (lemma_named r ≡ Some i)
-one_named (rule_line r) h = let e = some-is (lemma_named r) h in (r, e.0, refl, e.1)
-one_named (version n) h = absurd (cc)
-one_named (margin m) h = absurd (cc)
-one_named (delta d) h = absurd (cc)
-one_named (bound b) h = absurd (cc)
-one_named (lower d) h = absurd (cc)
-one_named (goal n) h = absurd (cc)
-one_named (checks n) h = absurd (cc)
-one_named (cover k) h = absurd (cc)
-one_named (keep q) h = absurd (cc)
-one_named point_word h = absurd (cc)
-one_named tree_word h = absurd (cc)
-one_named end_word h = absurd (cc)
-one_named (lemma i) h = absurd (cc)
-one_named (real_interval l u) h = absurd (cc)
-one_named (real_value v) h = absurd (cc)
-one_named (bool_value w) h = absurd (cc)
-one_named (yes_list js) h = absurd (cc)
-one_named (no_list js) h = absurd (cc)
-one_named over h = absurd (cc)
-one_named (crossing i) h = absurd (cc)
+one_named l h = let some = some-is (lemma_named_in l) h in elim (rule-or-same (λ n. n) l) [
+  | inl (r, e) ↦ (r, some.0, e, sym (ap lemma_named_in e) ∙ some.1)
+  | inr q ↦ absurd (let e : ◌≡◌ {A = Option ℕ} None (Some some.0) = sym q.0 ∙ some.1 in cc)
+]
 
 -- ---- the number of its lemma
 

@@ -7,7 +7,7 @@ use Rattle.cover_line.specs.Words.{pull_word}
 use Rattle.cert_model.specs.Due.{NotShown, RuleFails, Standing, at_point, left_open}
 use Rattle.cert_model.specs.Accepted.{refused, certificate_text}
 use Rattle.cert_model.specs.Laws.{shortest_lines}
-use Rattle.cert_model.specs.AnswerText.{solve_text, check_text, verdict_text, demo_text, name_text}
+use Rattle.cert_model.specs.AnswerText.{solve_text, check_text, verdict_text, name_text}
 use Rattle.cert_model.proofs.Problems.{unit_axis, opposite_products, one_bool, dyadic, minus_dyadic}
 
 abbrev usual : Loosenings
@@ -47,10 +47,6 @@ checked = refl
 faults : map verdict_text (refused NotShown 7 ∷ refused (RuleFails pull_word) 7 ∷ []) ≡ (codes "certificate fault 7 NotShown line 7\n" ∷ codes "certificate fault 3 RuleFails pull line 7\n" ∷ [])
 unfolding Rattle.std.specs.Fmt.digits
 faults = refl
-
-demo : demo_text 175 5 ≡ codes "script 175 atoms 5 answer unsat\n"
-unfolding Rattle.std.specs.Fmt.digits
-demo = refl
 
 names : map name_text (codes "x" ∷ codes "let" ∷ codes "a b" ∷ codes "1x" ∷ [] ∷ codes "<=" ∷ codes "sqrt(0)" ∷ codes "|sqrt(0)" ∷ []) ≡ (codes "x" ∷ codes "|let|" ∷ codes "|a b|" ∷ codes "|1x|" ∷ codes "||" ∷ codes "<=" ∷ codes "|sqrt(0)|" ∷ codes "sqrt(0)" ∷ [])
 unfolding Rattle.std.specs.Fmt.digits

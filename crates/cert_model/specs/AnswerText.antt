@@ -147,9 +147,3 @@ goal_text p g s (least x) = least_text p g x
 abbrev pub goal_verdict_text : Problem → ℕ → GoalVerdict → List ℕ
 goal_verdict_text p g (accepted s v) = goal_text p g s v
 goal_verdict_text p g (refused f n) = verdict_text (refused f n)
-
--- ---- demo
-
--- so many bytes of script, and so many atoms
-abbrev pub demo_text : ℕ → ℕ → List ℕ
-demo_text bytes atoms = text_line (codes "script " ++ decimal bytes ++ codes " atoms " ++ decimal atoms ++ codes " answer unsat")

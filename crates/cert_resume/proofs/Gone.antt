@@ -11,8 +11,7 @@ use Rattle.poly_graph.specs.ProblemViews.{Parts, problem_of}
 use Rattle.cover_line.specs.declared.rule.Rule.{Rule}
 use Rattle.cover_line.specs.Views as rules
 use Rattle.cover_model.specs.State.{State, Loosenings}
-use Rattle.cover_model.specs.Honest.{branch_count}
-use Rattle.cover_model.specs.Rules.{Line, by, narrow_by, by_range, by_off_range, by_combination, end_by, void_by, false_form, by_lemma, mark_by, unit_atom, ban_atom, branch_by, cut_axis, flip_axis, case_atom, stay_by, open_state, stuck_atom}
+use Rattle.cover_model.specs.Rules.{Line}
 use Rattle.cover_model.specs.Derivation.{Tree, leaf, tree_lines}
 use Rattle.cover_data.specs.declared.margins.Options.{Options}
 use Rattle.cover_data.specs.declared.stored.StoredState.{StoredState}
@@ -26,6 +25,7 @@ use Rattle.cert_model.specs.Written.{AreLemmaTrees, LemmaTree, lemma_states, lem
 use Rattle.cert_text.specs.Lines.{HasAppended}
 use Rattle.cert_text.proofs.Spelling.{both_appended, nothing_appended, rules_append}
 use Rattle.cert_resumed.specs.Resumed.{AreGrafts, AreShared, IsGraft, IsShared, Share, each_left, grafted, is_leaving, is_own, leaving_lines, others, own_left}
+use Rattle.cert_resumed.proofs.Grafts.{leaving_no_branch}
 use Rattle.cert_resume.specs.Answer.{TellsOfOwn}
 use Rattle.cert_resume.specs.Going.{CanBeResumed, HasGone, HasLearned, HasPassed, HasSearched, HasSkipped, IsBegun, MayGoOn, standings}
 use Rattle.cert_resume.specs.declared.answer.Own.{Own}
@@ -33,24 +33,6 @@ use Rattle.cert_resume.specs.declared.answer.Own.TheVariants as own
 use Rattle.cert_resume.specs.declared.going.Going.{Going}
 use Rattle.cert_resume.proofs.Owns.{open_either}
 use Rattle.cert_resume.proofs.Rows.{grafts_more, each_more, shared_more, grafts_end, each_end, shared_end, each_count, trees_count, own_end, others_end, branches_end, grafted_other, grafted_leaving, lemma_trees_append, lemma_states_append, lemma_lines_append}
-
--- a line that leaves its state is no branch
-no-branch : (l : Line) → is_leaving l ≡ true → branch_count l ≡ 0
-no-branch (branch_by (cut_axis axis c)) e = absurd (true≢false (sym e))
-no-branch (branch_by (flip_axis axis)) e = absurd (true≢false (sym e))
-no-branch (branch_by (case_atom j)) e = absurd (true≢false (sym e))
-no-branch (narrow_by (by_range j)) e = refl
-no-branch (mark_by (unit_atom j)) e = refl
-no-branch (end_by (void_by (by_range j))) e = refl
-no-branch (narrow_by (by_off_range j)) e = refl
-no-branch (end_by (void_by (by_off_range j))) e = refl
-no-branch (narrow_by (by_combination ms)) e = refl
-no-branch (end_by (void_by (by_combination ms))) e = refl
-no-branch (mark_by (ban_atom j i)) e = refl
-no-branch (end_by false_form) e = refl
-no-branch (end_by (by_lemma i)) e = refl
-no-branch (stay_by open_state) e = refl
-no-branch (stay_by (stuck_atom j)) e = refl
 
 module _ (q : Parts) (o : Options) (h : Share) (start : List State) where
   abbrev p : Problem
@@ -225,7 +207,7 @@ module _ (q : Parts) (o : Options) (h : Share) (start : List State) where
         main = record { written = k.main; spelled = (spelled, tt) };
         graft = subst (λ (ks : List State). IsGraft p s ks (record { state = S; does = l }) (leaf l)) same graft;
         shared = refl;
-        budget = omega (arith, k.budget, no-branch l e);
+        budget = omega (arith, k.budget, leaving_no_branch l e);
         own_tells = λ xs h. subst (λ (x : Own). TellsOfOwn x (xs ++ [])) (sym k.own) (subst (TellsOfOwn g.own) (sym (append-nil xs)) h);
         spent = λ e. absurd (true≢false (sym e));
         others = omega (arith, k.others);

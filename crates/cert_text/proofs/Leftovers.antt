@@ -5,7 +5,7 @@ use Rattle.std.specs.List.{list_any}
 use Rattle.std.proofs.lemmas.Option.{slice_get_within}
 use Rattle.std.proofs.lemmas.List.Folds.{list_any-append}
 use Rattle.poly_graph.specs.Problem.{Problem, first_crossed}
-use Rattle.cover_model.specs.Rules.{Line, open_line, narrow_by, by_range, by_off_range, by_combination, end_by, void_by, false_form, by_lemma, mark_by, unit_atom, ban_atom, branch_by, cut_axis, flip_axis, case_atom, stay_by, open_state, stuck_atom}
+use Rattle.cover_model.specs.Rules.{Line, open_line, narrow_by, end_by, mark_by, branch_by, stay_by, open_state, stuck_atom}
 use Rattle.cover_model.specs.Derivation.{Tree}
 use Rattle.cert_model.specs.Due.{Standing}
 use Rattle.cert_model.specs.AnswerText.{is_open, has_open}
@@ -133,19 +133,10 @@ pub covered : (b : BookModel) → IsBook b → first_crossed (problem_in b) ≡ 
 covered b w e = elim w.nodes [ inl c ↦ absurd (crossed-or-not (problem_in b) c.axis c.first e) | inr h ↦ h ]
 
 not-open : (l : Line) → (l ≡ open_line → ⊥) → is_open l ≡ false
-not-open (narrow_by (by_range j)) h = refl
-not-open (mark_by (unit_atom j)) h = refl
-not-open (end_by (void_by (by_range j))) h = refl
-not-open (narrow_by (by_off_range j)) h = refl
-not-open (end_by (void_by (by_off_range j))) h = refl
-not-open (narrow_by (by_combination ms)) h = refl
-not-open (end_by (void_by (by_combination ms))) h = refl
-not-open (mark_by (ban_atom j i)) h = refl
-not-open (end_by false_form) h = refl
-not-open (end_by (by_lemma i)) h = refl
-not-open (branch_by (cut_axis axis c)) h = refl
-not-open (branch_by (flip_axis axis)) h = refl
-not-open (branch_by (case_atom j)) h = refl
+not-open (narrow_by n) h = refl
+not-open (end_by e) h = refl
+not-open (mark_by m) h = refl
+not-open (branch_by b) h = refl
 not-open (stay_by open_state) h = absurd (h refl)
 not-open (stay_by (stuck_atom j)) h = refl
 

@@ -5,6 +5,7 @@ pub mod Items
 pub mod Numbers
 pub mod Proved
 mod ReadLines
+pub mod Ruled
 pub mod Sessions
 pub mod SessionTexts
 pub mod Spelling

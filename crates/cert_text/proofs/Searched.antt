@@ -6,7 +6,7 @@ use Rattle.std.proofs.lemmas.Option.{slice_get_within}
 use Rattle.poly_graph.specs.Problem.{Problem}
 use Rattle.interval_model.specs.Space.{Space}
 use Rattle.cover_model.specs.State.{State, Loosenings, in_yes, undecided, with_yes, with_no, may}
-use Rattle.cover_model.specs.Rules.{Line, open_line, stuck, one, when, pulled, narrowing, narrowing_off, combining, can_push, can_combine, lemma_covers, rule, narrow_by, by_range, by_off_range, by_combination, end_by, void_by, false_form, by_lemma, mark_by, unit_atom, ban_atom, branch_by, cut_axis, flip_axis, case_atom, stay_by, open_state, stuck_atom}
+use Rattle.cover_model.specs.Rules.{Line, open_line, stuck, one, when, pulled, can_narrow, narrowed_to, can_mark, marked, rule, narrow_by, end_by, mark_by, branch_by, stay_by, open_state, stuck_atom}
 use Rattle.cover_model.specs.Derivation.{Tree}
 use Rattle.cover_data.specs.Runs.{is_closing, children, IsEnding}
 use Rattle.cert_model.specs.Due.{Standing}
@@ -102,19 +102,10 @@ no-pull S false o h = elim h [ ]
 stuck-line : (p : Problem) (s : Loosenings) (lemmas : List State) (S T : State) (l : Line) → IsEnding (rule p s lemmas S l) → is_closing l ≡ false → children l T ≡ None → (l ≡ open_line → ⊥) → is_stuck_line l ≡ true
 stuck-line p s lemmas S T (stay_by (stuck_atom j)) h c d o = refl
 stuck-line p s lemmas S T (stay_by open_state) h c d o = absurd (o refl)
-stuck-line p s lemmas S T (end_by (void_by (by_range j))) h c d o = absurd (true≢false c)
-stuck-line p s lemmas S T (end_by (void_by (by_off_range j))) h c d o = absurd (true≢false c)
-stuck-line p s lemmas S T (end_by (void_by (by_combination ms))) h c d o = absurd (true≢false c)
-stuck-line p s lemmas S T (end_by false_form) h c d o = absurd (true≢false c)
-stuck-line p s lemmas S T (end_by (by_lemma i)) h c d o = absurd (true≢false c)
-stuck-line p s lemmas S T (branch_by (cut_axis axis x)) h c d o = cc
-stuck-line p s lemmas S T (branch_by (flip_axis axis)) h c d o = cc
-stuck-line p s lemmas S T (branch_by (case_atom j)) h c d o = cc
-stuck-line p s lemmas S T (narrow_by (by_range j)) h c d o = no-pull S (in_yes S j) (narrowing p s S j) h
-stuck-line p s lemmas S T (narrow_by (by_off_range j)) h c d o = no-pull S (can_push p s S j) (narrowing_off p s S j) h
-stuck-line p s lemmas S T (narrow_by (by_combination ms)) h c d o = no-pull S (can_combine p s S ms) (combining p s S ms) h
-stuck-line p s lemmas S T (mark_by (unit_atom j)) h c d o = no-one (with_yes S j) (undecided S j && not (may p s (with_no S j))) h
-stuck-line p s lemmas S T (mark_by (ban_atom j i)) h c d o = no-one (with_no S j) (undecided S j && lemma_covers lemmas i (with_yes S j)) h
+stuck-line p s lemmas S T (end_by e) h c d o = absurd (true≢false c)
+stuck-line p s lemmas S T (branch_by b) h c d o = cc
+stuck-line p s lemmas S T (narrow_by n) h c d o = no-pull S (can_narrow p s S n) (narrowed_to p s S n) h
+stuck-line p s lemmas S T (mark_by m) h c d o = no-one (marked S m) (can_mark p s lemmas S m) h
 
 run-stuck : (b : BookModel) (S T : State) (steps : List Line) (l : Line) → HasRun (problem_in b) (margins_of b.options) (lemma_states_in b) S steps l → is_closing l ≡ false → children l T ≡ None → is_stuck_line l ≡ true
 run-stuck b S T steps l h c d = stuck-line (problem_in b) (loosenings_in b) (lemma_states_in b) h.run.reached T l

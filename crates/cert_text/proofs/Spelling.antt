@@ -4,14 +4,12 @@ use Rattle.std.specs.Prelude.{codes, decimal, Some}
 use Rattle.std.specs.List.{AllByRecursion}
 use Rattle.std.proofs.lemmas.Fmt.{length-decimal-le}
 use Rattle.std.proofs.lemmas.List.{append-nil}
-use Rattle.cover_model.specs.Rules.{Line, ban, cut}
-use Rattle.cover_model.specs.Combination.{Multipliers}
-use Rattle.cover_line.specs.Words.{word_text}
+use Rattle.cover_model.specs.Rules.{Line}
 use Rattle.poly_graph.specs.Marks.{Mark, is_yes, is_no, numbers_from}
 use Rattle.dyadic.specs.Rounding.{Dyadic}
 use Rattle.dyadic.specs.NumberText.{number_spelling}
 use Rattle.cert_read.specs.CertLine.{CertLine, lower, real_interval, real_value, rule_line}
-use Rattle.cert_read.specs.LineText.{spaced, line_text, pair_words, IsCount, IsSpelledNumber, IsSpelledPair, HasSpelling, IsSpelled}
+use Rattle.cert_read.specs.LineText.{spaced, line_text, IsCount, IsSpelledNumber, IsSpelledPair, HasSpelling, IsSpelled}
 use Rattle.cert_read.specs.Lines.{longest_line}
 use Rattle.cert_model.specs.Accepted.{certificate_text}
 use Rattle.cert_model.specs.Written.{rule_lines}
@@ -19,9 +17,7 @@ use Rattle.cert_text.specs.declared.keyword.Plain.{Plain}
 use Rattle.cert_text.specs.declared.keyword.Plain.TheVariants as plain
 use Rattle.cert_text.specs.declared.keyword.Counted.{Counted}
 use Rattle.cert_text.specs.declared.keyword.Counted.TheVariants as counted
-use Rattle.cert_text.specs.declared.keyword.Multiplied.{Multiplied}
-use Rattle.cert_text.specs.declared.keyword.Multiplied.TheVariants as multiplied
-use Rattle.cert_text.specs.Lines.{HasAppended, HasPairs, HasPairsLine, paired_off, plain_line, plain_text, counted_line, counted_word, multiplied_line, multiplied_word, is_marked, marks_word, marks_line, listed, most_atoms}
+use Rattle.cert_text.specs.Lines.{HasAppended, HasPairs, paired_off, plain_line, plain_text, counted_line, counted_word, is_marked, marks_word, marks_line, listed, most_atoms}
 
 -- ---- texts of lines
 
@@ -62,8 +58,6 @@ plain-text plain.End = refl
 plain-text plain.BoolFalse = refl
 plain-text plain.BoolTrue = refl
 plain-text plain.BoolBoth = refl
-plain-text plain.False = refl
-plain-text plain.Open = refl
 plain-text plain.Over = refl
 
 plain-spelled : (w : Plain) → HasSpelling (plain_line w)
@@ -75,8 +69,6 @@ plain-spelled plain.End = tt
 plain-spelled plain.BoolFalse = tt
 plain-spelled plain.BoolTrue = tt
 plain-spelled plain.BoolBoth = tt
-plain-spelled plain.False = tt
-plain-spelled plain.Open = tt
 plain-spelled plain.Over = tt
 
 plain-short : (w : Plain) → length (plain_text w) ≤ 16
@@ -88,8 +80,6 @@ plain-short plain.End = omega arith
 plain-short plain.BoolFalse = omega arith
 plain-short plain.BoolTrue = omega arith
 plain-short plain.BoolBoth = omega arith
-plain-short plain.False = omega arith
-plain-short plain.Open = omega arith
 plain-short plain.Over = omega arith
 
 pub plain_appended : (w : Plain) (a b c : List ℕ) → b ≡ a ++ plain_text w → c ≡ b ++ (10 ∷ []) → HasAppended a (plain_line w ∷ []) c
@@ -111,15 +101,6 @@ counted-text counted.Checks n = refl
 counted-text counted.Cover n = refl
 counted-text counted.Keep n = refl
 counted-text counted.Lemma n = refl
-counted-text counted.Pull n = refl
-counted-text counted.Push n = refl
-counted-text counted.Void n = refl
-counted-text counted.VoidNo n = refl
-counted-text counted.By n = refl
-counted-text counted.Unit n = refl
-counted-text counted.Flip n = refl
-counted-text counted.Case n = refl
-counted-text counted.Stuck n = refl
 counted-text counted.Empty n = refl
 
 counted-spelled : (w : Counted) (n : ℕ) → IsCount n → HasSpelling (counted_line w n)
@@ -132,15 +113,6 @@ counted-spelled counted.Checks n h = h
 counted-spelled counted.Cover n h = h
 counted-spelled counted.Keep n h = h
 counted-spelled counted.Lemma n h = h
-counted-spelled counted.Pull n h = h
-counted-spelled counted.Push n h = h
-counted-spelled counted.Void n h = h
-counted-spelled counted.VoidNo n h = h
-counted-spelled counted.By n h = h
-counted-spelled counted.Unit n h = h
-counted-spelled counted.Flip n h = h
-counted-spelled counted.Case n h = h
-counted-spelled counted.Stuck n h = h
 counted-spelled counted.Empty n h = h
 
 counted-short : (w : Counted) → length (counted_word w) ≤ 16
@@ -153,15 +125,6 @@ counted-short counted.Checks = omega arith
 counted-short counted.Cover = omega arith
 counted-short counted.Keep = omega arith
 counted-short counted.Lemma = omega arith
-counted-short counted.Pull = omega arith
-counted-short counted.Push = omega arith
-counted-short counted.Void = omega arith
-counted-short counted.VoidNo = omega arith
-counted-short counted.By = omega arith
-counted-short counted.Unit = omega arith
-counted-short counted.Flip = omega arith
-counted-short counted.Case = omega arith
-counted-short counted.Stuck = omega arith
 counted-short counted.Empty = omega arith
 
 pub counted_appended : (w : Counted) (n : ℕ) (a b c : List ℕ) → IsCount n → b ≡ a ++ (counted_word w ++ (32 ∷ decimal n)) → c ≡ b ++ (10 ∷ []) → HasAppended a (counted_line w n ∷ []) c
@@ -169,10 +132,7 @@ counted_appended w n a b c h e f = line_appended a c (counted_line w n) (counted
     (omega (arith, counted-short w, decimal_short n h, ap length (counted-text w n), length-append (counted_word w) (32 ∷ decimal n)))
     (f ∙ ap (λ (t : List ℕ). t ++ (10 ∷ [])) (e ∙ ap (λ (t : List ℕ). a ++ t) (sym (counted-text w n))) ∙ append_assoc a (line_text (counted_line w n)) (10 ∷ []))
 
--- ---- lines with two numbers, or with one of the grid
-
-two-words : (a w x y : List ℕ) → ((a ++ (w ++ (32 ∷ x))) ++ (32 ∷ y)) ++ (10 ∷ []) ≡ a ++ ((w ++ (32 ∷ (x ++ (32 ∷ y)))) ++ (10 ∷ []))
-two-words a w x y = simp append_assoc
+-- ---- lines with numbers of the grid
 
 three-parts : (a w x y : List ℕ) → (((a ++ w) ++ x) ++ (32 ∷ y)) ++ (10 ∷ []) ≡ a ++ ((w ++ (x ++ (32 ∷ y))) ++ (10 ∷ []))
 three-parts a w x y = simp append_assoc
@@ -184,18 +144,6 @@ two-parts a w x = simp append_assoc
 pub record IsShortNumber (d : Dyadic) : Type 0 where
   pub spelled : IsSpelledNumber d
   pub short : length (number_spelling d) ≤ 64
-
-pub ban_appended : (j i : ℕ) (a b c d : List ℕ) → IsCount j → IsCount i → b ≡ a ++ (codes "ban" ++ (32 ∷ decimal j)) → c ≡ b ++ (32 ∷ decimal i) → d ≡ c ++ (10 ∷ []) → HasAppended a (rule_line (ban j i) ∷ []) d
-ban_appended j i a b c d h k e f g = line_appended a d (rule_line (ban j i)) (h, k)
-    (omega (arith, decimal_short j h, decimal_short i k, length-append (decimal j) (32 ∷ decimal i)))
-    (g ∙ ap (λ (t : List ℕ). t ++ (10 ∷ [])) (f ∙ ap (λ (t : List ℕ). t ++ (32 ∷ decimal i)) e) ∙ two-words a (codes "ban") (decimal j) (decimal i))
-
-pub cut_appended : (axis : ℕ) (at : Dyadic) (a b c d e : List ℕ) → IsCount axis → IsShortNumber at → b ≡ a ++ (codes "cut" ++ (32 ∷ decimal axis)) → c ≡ b ++ (32 ∷ []) → d ≡ c ++ number_spelling at → e ≡ d ++ (10 ∷ []) →
-    HasAppended a (rule_line (cut axis at) ∷ []) e
-cut_appended axis at a b c d e h k p q r s = line_appended a e (rule_line (cut axis at)) (h, k.spelled)
-    (omega (arith, decimal_short axis h, k.short, length-append (decimal axis) (32 ∷ number_spelling at)))
-    (s ∙ ap (λ (t : List ℕ). t ++ (10 ∷ [])) (r ∙ ap (λ (t : List ℕ). t ++ number_spelling at) (q ∙ ap (λ (t : List ℕ). t ++ (32 ∷ [])) p) ∙ append_assoc (a ++ (codes "cut" ++ (32 ∷ decimal axis))) (32 ∷ []) (number_spelling at))
-    ∙ two-words a (codes "cut") (decimal axis) (number_spelling at))
 
 pub value_appended : (v : Dyadic) (a b c d : List ℕ) → IsShortNumber v → b ≡ a ++ codes "real " → c ≡ b ++ number_spelling v → d ≡ c ++ (10 ∷ []) → HasAppended a (real_value v ∷ []) d
 value_appended v a b c d k e f g = line_appended a d (real_value v) k.spelled (omega (arith, k.short))
@@ -212,7 +160,7 @@ interval_appended l h a b c d e f k m p q r s t = line_appended a f (real_interv
     (t ∙ ap (λ (x : List ℕ). x ++ (10 ∷ [])) (s ∙ ap (λ (x : List ℕ). x ++ number_spelling h) (r ∙ ap (λ (x : List ℕ). x ++ (32 ∷ [])) (q ∙ ap (λ (x : List ℕ). x ++ number_spelling l) p))
     ∙ append_assoc ((a ++ codes "real ") ++ number_spelling l) (32 ∷ []) (number_spelling h)) ∙ three-parts a (codes "real ") (number_spelling l) (number_spelling h))
 
--- ---- lines of atoms with their multipliers
+-- ---- atoms with their multipliers
 
 pair-parts : (a x y : List ℕ) → ((a ++ (32 ∷ x)) ++ (32 ∷ [])) ++ y ≡ a ++ (32 ∷ (x ++ (32 ∷ (y ++ []))))
 pair-parts a x y = ap (λ (t : List ℕ). ((a ++ (32 ∷ x)) ++ (32 ∷ [])) ++ t) (sym (append-nil y)) ∙ append_assoc (a ++ (32 ∷ x)) (32 ∷ []) (y ++ []) ∙ append_assoc a (32 ∷ x) (32 ∷ (y ++ []))
@@ -244,36 +192,6 @@ both_pairs a b c ps qs h k = record {
   spelled = spelled-append ps qs h.spelled k.spelled;
   short = omega (arith, h.short, k.short, ap length (paired-append ps qs), length-append (paired_off ps) (paired_off qs), length-append ps qs);
 }
-
-spaced-pairs : (w : List ℕ) (ps : List (ℕ × Dyadic)) → spaced (w ∷ pair_words ps) ≡ w ++ paired_off ps
-spaced-pairs w [] = sym (append-nil w)
-spaced-pairs w ((j, l) ∷ ps) = ap (λ (t : List ℕ). w ++ (32 ∷ (decimal j ++ (32 ∷ t)))) (spaced-pairs (number_spelling l) ps)
-
-pairs-text : (m : Multiplied) (ps : Multipliers) → line_text (multiplied_line m ps) ≡ multiplied_word m ++ paired_off ps
-pairs-text multiplied.Combine ps = spaced-pairs (codes "comb") ps
-pairs-text multiplied.VoidCombine ps = spaced-pairs (codes "voidcomb") ps
-
-pairs-spelled : (m : Multiplied) (ps : Multipliers) → 0 < length ps → AllByRecursion IsSpelledPair ps → HasSpelling (multiplied_line m ps)
-pairs-spelled multiplied.Combine ps h k = (h, k)
-pairs-spelled multiplied.VoidCombine ps h k = (h, k)
-
-pairs-short : (m : Multiplied) → length (multiplied_word m) ≤ 16
-pairs-short multiplied.Combine = omega arith
-pairs-short multiplied.VoidCombine = omega arith
-
-pub pairs_line : (m : Multiplied) (ps : Multipliers) (a b c d : List ℕ) → b ≡ a ++ multiplied_word m → HasPairs b ps c → d ≡ c ++ (10 ∷ []) → HasPairsLine a m ps d
-pairs_line m ps a b c d e h f =
-    let w : List ℕ = multiplied_word m in
-    let l : CertLine = multiplied_line m ps in
-    let text : c ≡ a ++ line_text l = h.written ∙ ap (λ (t : List ℕ). t ++ paired_off ps) e ∙ append_assoc a w (paired_off ps) ∙ ap (λ (t : List ℕ). a ++ t) (sym (pairs-text m ps)) in
-    record {
-      written = f ∙ ap (λ (t : List ℕ). t ++ (10 ∷ [])) text ∙ append_assoc a (line_text l) (10 ∷ []);
-      spelled = h.spelled;
-      short = omega (arith, h.short, pairs-short m, ap length (pairs-text m ps), length-append w (paired_off ps));
-    }
-
-pub paired_appended : (m : Multiplied) (ps : Multipliers) (a b : List ℕ) → 0 < length ps → length ps ≤ 64 → HasPairsLine a m ps b → HasAppended a (multiplied_line m ps ∷ []) b
-paired_appended m ps a b some few h = line_appended a b (multiplied_line m ps) (pairs-spelled m ps some h.spelled) (omega (arith, few, h.short)) h.written
 
 -- ---- lines of marks
 

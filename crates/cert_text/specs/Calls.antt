@@ -6,21 +6,21 @@ use Rattle.poly_graph.specs.MarkViews.{mark_of}
 use Rattle.poly_graph.specs.Marks.{numbers_from}
 use Rattle.poly_graph.specs.declared.mark.Mark.{Mark}
 use Rattle.cover_model.specs.State.{State}
-use Rattle.dyadic.specs.declared.dy.Dy.{Dy}
-use Rattle.cover_model.specs.Views.{multipliers_of}
 use Rattle.interval_model.specs.Space.{Space}
 use Rattle.poly_graph.specs.ProblemViews.{Parts, problem_of}
+use Rattle.cover_line.specs.Views.{rule_word}
+use Rattle.cover_line.specs.Words.{Operands}
+use Rattle.cover_line.specs.declared.word.Word.{Word}
 use Rattle.cover_data.specs.Margins.{loosenings_of, margins_of}
-use Rattle.cover_data.specs.declared.combination.Combination.{Combination}
 use Rattle.cover_data.specs.declared.margins.Options.{Options}
-use Rattle.cert_text.specs.declared.keyword.Multiplied.{Multiplied}
-use Rattle.cert_read.specs.CertLine.{CertLine, rule_line}
+use Rattle.cert_read.specs.CertLine.{CertLine}
 use Rattle.cert_model.specs.Accepted.{certificate_text}
 use Rattle.cert_model.specs.Laws.{point_text}
 use Rattle.cover_book.specs.declared.node.Node.{Node}
 use Rattle.cover_book.specs.Model.{crossed_node}
 use Rattle.cover_book.specs.Views.{node_of}
-use Rattle.cert_text.specs.Lines.{multiplied_line, HasAppended, HasPairsLine, is_marked, listed}
+use Rattle.cert_text.specs.Lines.{HasAppended, is_marked, listed}
+use Rattle.cert_text.specs.Ruled.{HasRuled}
 use Rattle.cert_text.specs.Means.{IsPointCertificate}
 use Rattle.cert_text.specs.Parts.{HasNothingNext, IsNextTaken, header_lines, node_left}
 use Rattle.cert_text.specs.Stuck.{HasNoStuckState, IsFirstStuckState, IsStuckNode, first_stuck}
@@ -33,6 +33,10 @@ Appends old new ls r = OnOk r (HasAppended old.items ls new.items)
 abbrev pub AppendsText : {X : Type 0} → Vec ℕ Global → Vec ℕ Global → List CertLine → Result X AllocError → Type 0
 AppendsText old new ls r = OnOk r (new.items ≡ old.items ++ certificate_text ls)
 
+-- a line of a tree with this first word and these operands was appended
+abbrev pub AppendsRuled : {X : Type 0} → Vec ℕ Global → Vec ℕ Global → Word → Operands → Result X AllocError → Type 0
+AppendsRuled old new w o r = OnOk r (HasRuled old.items (rule_word w) o new.items)
+
 -- a line of a word and numbers was appended
 abbrev pub AppendsList : {X : Type 0} → Vec ℕ Global → Vec ℕ Global → List ℕ → List ℕ → Result X AllocError → Type 0
 AppendsList old new word numbers r = OnOk r (new.items ≡ old.items ++ (word ++ (listed numbers ++ (10 ∷ []))))
@@ -44,13 +48,6 @@ marked_numbers wanted marks = listed (numbers_from (is_marked wanted) 0 (map mar
 -- the lines of this version, and of the margin, the delta and the bound
 abbrev pub header_of : ℕ → Options → List CertLine
 header_of v o = header_lines (record (loosenings_of (margins_of o)) { version = v }) o.bound
-
-abbrev pub line_of_combination : Multiplied → Combination → CertLine
-line_of_combination word c = multiplied_line word (multipliers_of c.pairs.items)
-
--- the line of these pairs was appended
-abbrev pub HasMultipliers : List ℕ → Multiplied → List (ℕ × Dy) → List ℕ → Type 0
-HasMultipliers old word pairs new = HasPairsLine old word (multipliers_of pairs) new
 
 -- ---- points
 

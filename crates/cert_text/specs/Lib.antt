@@ -3,6 +3,7 @@ pub mod Laws
 pub mod Lines
 pub mod Means
 pub mod Parts
+pub mod Ruled
 pub mod Session
 pub mod Stuck
 pub mod Texts

@@ -3,15 +3,15 @@ ghost use Rattle.std.specs.Prelude.{◌≡◌, ◌<◌, ◌≤◌, ◌++◌, ◌
 ghost use Rattle.dyadic.specs.NumberText.{number_spelling};
 ghost use Rattle.dyadic.specs.Views.{dyadic_of};
 ghost use Rattle.poly_graph.specs.MarkViews.{mark_of};
-ghost use Rattle.cover_model.specs.Rules.{ban, cut};
-ghost use Rattle.cert_read.specs.CertLine.{lower, real_interval, real_value, rule_line};
+ghost use Rattle.cert_read.specs.CertLine.{lower, real_interval, real_value};
 ghost use Rattle.cert_read.specs.LineText.{IsCount, IsSpelledNumber};
-ghost use Rattle.cover_model.specs.Views.{multipliers_of};
-ghost use Rattle.cert_text.specs.Calls.{Appends, HasMultipliers, line_of_combination, marked_numbers};
+ghost use Rattle.cover_line.specs.Views.{multipliers_of};
+ghost use Rattle.cert_text.specs.Calls.{Appends, AppendsRuled, marked_numbers};
 ghost use Rattle.cert_text.specs.Lines.{HasPairs, counted_line, is_marked, marks_line, marks_word, most_atoms, plain_line};
+ghost use Rattle.cert_text.specs.Ruled.{HasOperands, operands_in};
 
-use crate::keyword::{Counted, Multiplied, Plain, counted_bytes, multiplied_bytes, plain_bytes};
-use cover_data::Combination;
+use crate::keyword::{Counted, Plain, counted_bytes, plain_bytes};
+use crate::operands::Operands;
 use cover_line::Word;
 use dyadic::{Dy, write_dy};
 use itoa::Buffer;
@@ -74,25 +74,6 @@ pub fn append_counted(text: &mut Vec<u8>, word: Counted, n: u32) -> Result<(), A
     append_break(text)
 }
 
-/// Appends the line that a lemma bans an atom.
-pub(crate) fn append_ban(text: &mut Vec<u8>, atom: u32, lemma: u32) -> Result<(), AllocError>
-    ensures { Appends text.old text.new (rule_line (ban atom lemma) ∷ []) result }
-{
-    append_word_and_count(text, Word::Ban.text(), atom)?;
-    append_word_and_count(text, "", lemma)?;
-    append_break(text)
-}
-
-/// Appends the line that an axis is cut at a number.
-pub(crate) fn append_cut(text: &mut Vec<u8>, axis: u32, at: Dy) -> Result<(), AllocError>
-    ensures { Appends text.old text.new (rule_line (cut axis (dyadic_of at)) ∷ []) result }
-{
-    append_word_and_count(text, Word::Cut.text(), axis)?;
-    text.extend_from_slice(b" ")?;
-    append_number(text, at)?;
-    append_break(text)
-}
-
 /// Appends the line of a lower bound of the goal.
 pub(crate) fn append_lower(text: &mut Vec<u8>, bound: Dy) -> Result<(), AllocError>
     ensures { Appends text.old text.new (lower (Some (dyadic_of bound)) ∷ []) result }
@@ -142,28 +123,35 @@ fn append_pairs(text: &mut Vec<u8>, pairs: &[(u32, Dy)]) -> Result<(), AllocErro
     Ok(())
 }
 
-/// Appends the line of atoms with their multipliers.
-pub(crate) fn append_multipliers(
-    text: &mut Vec<u8>,
-    word: Multiplied,
-    pairs: &[(u32, Dy)],
-) -> Result<(), AllocError>
-    ensures { OnOk result (HasMultipliers text.old.items word pairs.now text.new.items) }
+// What stands behind the first word of a tree's line.
+fn append_operands(text: &mut Vec<u8>, operands: &Operands<'_>) -> Result<(), AllocError>
+    ensures { OnOk result (HasOperands text.old.items (operands_in operands.now) text.new.items) }
 {
-    text.extend_from_slice(multiplied_bytes(word).as_bytes())?;
-    append_pairs(text, pairs)?;
-    append_break(text)
+    match operands {
+        Operands::Nothing => Ok(()),
+        Operands::Atom(atom) => append_word_and_count(text, "", *atom),
+        Operands::Lemma(lemma) => append_word_and_count(text, "", *lemma),
+        Operands::AtomLemma(atom, lemma) => {
+            append_word_and_count(text, "", *atom)?;
+            append_word_and_count(text, "", *lemma)
+        }
+        Operands::Axis(axis) => append_word_and_count(text, "", *axis),
+        Operands::AxisPlace(axis, at) => append_pair(text, *axis, *at),
+        Operands::Multipliers(pairs) => append_pairs(text, pairs),
+    }
 }
 
-/// Appends the line of a combination of atoms.
-pub(crate) fn append_combination(
+/// Appends a line of a tree.
+pub(crate) fn append_ruled(
     text: &mut Vec<u8>,
-    word: Multiplied,
-    combination: &Combination,
+    word: Word,
+    operands: &Operands<'_>,
 ) -> Result<(), AllocError>
-    ensures { Appends text.old text.new (line_of_combination word combination.now ∷ []) result }
+    ensures { AppendsRuled text.old text.new word (operands_in operands.now) result }
 {
-    append_multipliers(text, word, &combination.pairs)
+    text.extend_from_slice(word.text().as_bytes())?;
+    append_operands(text, operands)?;
+    append_break(text)
 }
 
 // Whether the atom is marked yes, or no.

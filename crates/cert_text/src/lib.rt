@@ -11,6 +11,7 @@ mod facts;
 pub mod keyword;
 pub mod laws;
 mod line;
+mod operands;
 mod part;
 mod parts;
 mod point;

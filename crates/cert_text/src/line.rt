@@ -1,21 +1,22 @@
 // A line as it was read.
 ghost use Rattle.std.specs.Prelude.{◌≡◌, ◌++◌, ◌∷◌, [], OnOk, option_map};
 ghost use Rattle.dyadic.specs.Views.{dyadic_of};
-ghost use Rattle.cover_line.specs.Line.{end_by};
 ghost use Rattle.cover_line.specs.Views as rules;
-ghost use Rattle.cover_line.specs.Views.{ending_of};
+ghost use Rattle.cover_line.specs.Words.{operands_of};
 ghost use Rattle.cert_read.specs.CertLine.{bool_value, bound, lower, real_interval, real_value, rule_line};
 ghost use Rattle.cert_read.specs.Views.{bool_word_of, line_of};
 ghost use Rattle.cert_text.specs.Calls.{Appends, AppendsList, AppendsText};
 ghost use Rattle.cert_text.specs.Lines.{listed};
+ghost use Rattle.cert_text.specs.Ruled.{HasFewPairs};
 
 use crate::append::{
-    append_ban, append_break, append_counted, append_cut, append_interval, append_lower,
-    append_multipliers, append_plain, append_value, append_word_and_count,
+    append_break, append_counted, append_interval, append_lower, append_plain, append_ruled,
+    append_value, append_word_and_count,
 };
-use crate::keyword::{Counted, Multiplied, Plain};
+use crate::keyword::{Counted, Plain};
+use crate::operands::of_rule;
 use cert_read::{BoolSet, Line};
-use cover_line::{Branching, Ending, Marking, Narrowing, Rule, Staying, Word};
+use cover_line::Rule;
 use dyadic::Dy;
 use std::alloc::AllocError;
 
@@ -67,42 +68,19 @@ fn append_list(text: &mut Vec<u8>, word: &str, numbers: &[u32]) -> Result<(), Al
     append_break(text)
 }
 
-// A line that closes its state, as the reader answers it, with its break.
-#[tactic(auto, using(crate::proofs::ReadLines::appended_text))]
-fn append_ending(text: &mut Vec<u8>, ending: &Ending) -> Result<(), AllocError>
-    ensures { AppendsText text.old text.new (rule_line (end_by (ending_of ending.now)) ∷ []) result }
-{
-    match ending {
-        Ending::Void(Narrowing::Pull(atom)) => append_counted(text, Counted::Void, *atom),
-        Ending::Void(Narrowing::Push(atom)) => append_counted(text, Counted::VoidNo, *atom),
-        Ending::Void(Narrowing::Combine(pairs)) => {
-            append_multipliers(text, Multiplied::VoidCombine, pairs)
-        }
-        Ending::False => append_plain(text, Plain::False),
-        Ending::By(lemma) => append_counted(text, Counted::By, *lemma),
-    }
-}
-
 /// Appends a line of a tree as the reader answers it, with its break. Out of memory is its one error.
-#[tactic(auto, using(crate::proofs::ReadLines::appended_text))]
 pub fn append_rule(text: &mut Vec<u8>, rule: &Rule) -> Result<(), AllocError>
     ensures { AppendsText text.old text.new (rule_line (rules.line_of rule.now) ∷ []) result }
 {
-    match rule {
-        Rule::Narrow(Narrowing::Pull(atom)) => append_counted(text, Counted::Pull, *atom),
-        Rule::Narrow(Narrowing::Push(atom)) => append_counted(text, Counted::Push, *atom),
-        Rule::Narrow(Narrowing::Combine(pairs)) => {
-            append_multipliers(text, Multiplied::Combine, pairs)
-        }
-        Rule::End(ending) => append_ending(text, ending),
-        Rule::Mark(Marking::Unit(atom)) => append_counted(text, Counted::Unit, *atom),
-        Rule::Mark(Marking::Ban(atom, lemma)) => append_ban(text, *atom, *lemma),
-        Rule::Branch(Branching::Cut(axis, at)) => append_cut(text, *axis, *at),
-        Rule::Branch(Branching::Flip(axis)) => append_counted(text, Counted::Flip, *axis),
-        Rule::Branch(Branching::Case(atom)) => append_counted(text, Counted::Case, *atom),
-        Rule::Stay(Staying::Open) => append_plain(text, Plain::Open),
-        Rule::Stay(Staying::Stuck(atom)) => append_counted(text, Counted::Stuck, *atom),
-    }
+    append_ruled(text, rule.word(), &of_rule(rule))
+}
+
+/// The same of a rule that has no more pairs than a line may have.
+pub(crate) fn append_short_rule(text: &mut Vec<u8>, rule: &Rule) -> Result<(), AllocError>
+    requires { HasFewPairs (operands_of (rules.line_of rule.now)) }
+    ensures { Appends text.old text.new (rule_line (rules.line_of rule.now) ∷ []) result }
+{
+    append_ruled(text, rule.word(), &of_rule(rule))
 }
 
 #[tactic(auto, using(crate::proofs::ReadLines::appended_text, crate::proofs::ReadLines::yes_text, crate::proofs::ReadLines::no_text))]

@@ -2,7 +2,8 @@
 ghost use Rattle.std.specs.Prelude.{◌≡◌, ◌≤◌, ◌+◌, ◌∷◌, [], length, map};
 ghost use Rattle.std.specs.List.{AllByRecursion};
 ghost use Rattle.ival.specs.SpaceViews.{domain_of, space_of};
-ghost use Rattle.cover_data.specs.Views.{step_line, end_line};
+ghost use Rattle.cover_line.specs.Line.{end_by};
+ghost use Rattle.cover_data.specs.Views.{closing_of, end_line, step_line};
 ghost use Rattle.cover_book.specs.Steps.{most_lemmas};
 ghost use Rattle.cover_book.specs.Tree.{lemma_tree};
 ghost use Rattle.cover_book.specs.Views.{learned_of};
@@ -12,12 +13,14 @@ ghost use Rattle.cert_text.specs.Calls.{Appends, header_of};
 ghost use Rattle.cert_text.specs.Parts.{HasFewMarks, kept_lines, learned_lines};
 
 use crate::append::{
-    append_ban, append_combination, append_counted, append_cut, append_interval, append_marks,
-    append_plain, append_value,
+    append_counted, append_interval, append_marks, append_plain, append_ruled, append_value,
 };
-use crate::keyword::{Counted, Multiplied, Plain};
+use crate::keyword::{Counted, Plain};
+use crate::line::append_short_rule;
+use crate::operands::{kind_of, of_kept};
 use cover_book::{Learned, Lines};
-use cover_data::{End, Options, State, Step};
+use cover_data::{Closing, End, Options, State, Step};
+use cover_line::{Ending, Rule, Staying, Word};
 use ival::{Domain, Space, Truths};
 use std::alloc::AllocError;
 
@@ -87,15 +90,26 @@ fn append_step(text: &mut Vec<u8>, step: &Step) -> Result<(), AllocError>
     ensures { Appends text.old text.new (rule_line (step_line step.now) ∷ []) result }
 {
     match step {
-        Step::Pull(atom) => append_counted(text, Counted::Pull, *atom),
-        Step::Push(atom) => append_counted(text, Counted::Push, *atom),
-        Step::Unit(atom) => append_counted(text, Counted::Unit, *atom),
-        Step::Ban(atom, lemma) => append_ban(text, *atom, *lemma),
-        Step::Combine(combination) => append_combination(
+        Step::Narrow(narrowing) => append_ruled(
             text,
-            Multiplied::Combine,
-            combination,
+            Word::Narrow(kind_of(narrowing)),
+            &of_kept(narrowing),
         ),
+        Step::Mark(marking) => append_short_rule(text, &Rule::Mark(*marking)),
+    }
+}
+
+fn append_closing(text: &mut Vec<u8>, closing: &Closing) -> Result<(), AllocError>
+    ensures { Appends text.old text.new (rule_line (end_by (closing_of closing.now)) ∷ []) result }
+{
+    match closing {
+        Closing::Void(narrowing) => append_ruled(
+            text,
+            Word::Void(kind_of(narrowing)),
+            &of_kept(narrowing),
+        ),
+        Closing::False => append_short_rule(text, &Rule::End(Ending::False)),
+        Closing::By(lemma) => append_short_rule(text, &Rule::End(Ending::By(*lemma))),
     }
 }
 
@@ -103,19 +117,9 @@ fn append_end(text: &mut Vec<u8>, end: &End) -> Result<(), AllocError>
     ensures { Appends text.old text.new (rule_line (end_line end.now) ∷ []) result }
 {
     match end {
-        End::Void(atom) => append_counted(text, Counted::Void, *atom),
-        End::VoidNo(atom) => append_counted(text, Counted::VoidNo, *atom),
-        End::VoidCombine(combination) => append_combination(
-            text,
-            Multiplied::VoidCombine,
-            combination,
-        ),
-        End::False => append_plain(text, Plain::False),
-        End::By(lemma) => append_counted(text, Counted::By, *lemma),
-        End::Cut(axis, at) => append_cut(text, *axis, *at),
-        End::Flip(axis) => append_counted(text, Counted::Flip, *axis),
-        End::Case(atom) => append_counted(text, Counted::Case, *atom),
-        End::Stuck(atom) => append_counted(text, Counted::Stuck, *atom),
+        End::Close(closing) => append_closing(text, closing),
+        End::Part(branching) => append_short_rule(text, &Rule::Branch(*branching)),
+        End::Stuck(atom) => append_short_rule(text, &Rule::Stay(Staying::Stuck(*atom))),
     }
 }
 

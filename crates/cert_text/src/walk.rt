@@ -4,10 +4,12 @@ ghost use Rattle.cover_book.specs.Views.{node_of};
 ghost use Rattle.cert_text.specs.Calls.{Appends, IsCrossedAt, IsNotCrossed, IsTaken, NoneWaits};
 ghost use Rattle.cert_text.specs.Parts.{HasAppendedCover, HasAppendedTree, IsCountedCrossing, kids, node_lines};
 
-use crate::append::{append_counted, append_plain};
-use crate::keyword::{Counted, Plain};
+use crate::append::append_counted;
+use crate::keyword::Counted;
+use crate::line::append_short_rule;
 use crate::parts::append_lines;
 use cover_book::Node;
+use cover_line::{Rule, Staying};
 use std::alloc::{AllocError, Global};
 
 // The lines of a node of a tree.
@@ -15,7 +17,7 @@ fn append_node(text: &mut Vec<u8>, node: &Node) -> Result<(), AllocError>
     ensures { Appends text.old text.new (node_lines (node_of node.now)) result }
 {
     match node {
-        Node::Live(_) => append_plain(text, Plain::Open),
+        Node::Live(_) => append_short_rule(text, &Rule::Stay(Staying::Open)),
         Node::Crossed(_) => Ok(()),
         Node::Closed(lines) | Node::Parted(lines, _) | Node::Stuck(lines, _) => {
             append_lines(text, lines)

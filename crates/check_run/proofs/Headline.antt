@@ -24,12 +24,13 @@ use Rattle.script_reading.specs.Session.{HasSession}
 use Rattle.check_run.specs.declared.status.Status.{Status}
 use Rattle.check_run.specs.declared.status.Status.TheVariants.{Answered, CertRefused}
 use Rattle.script_reading.specs.Reader.{commands_of, HasProblem, IsBuilt}
-use Rattle.check_run.specs.Answer.{loosenings_for, loosenings_of, solve_texts}
+use Rattle.check_run.specs.Answer.{demo_text, loosenings_for, loosenings_of, solve_texts}
 use Rattle.check_run.specs.Course.{Course, behind, appended}
 use Rattle.check_run.specs.Can.{CanSolve, CanCheck, CanUpgrade, CanUpgradeBy, CanPlan, CanBy, OfProblem, OfSession, check_texts, goal_course, verdict_course}
 use Rattle.check_run.specs.Minimized.{CanMinimize, CanTellLeast, Cause, IsLeastAnswer, near, spent, narrow, no_limit, minimize_text}
 use Rattle.check_run.specs.Run.{Run, HasCourse, HasInput, IsShown}
 use Rattle.check_run.proofs.Shown.{status_is_shown}
+use Rattle.check_run.proofs.Demos.{demo_says_delta_sat, demo_says_unsat}
 use Rattle.check_run.proofs.Differ.{apart-left, written-is, says-unsat, says-delta-sat, confirms-unsat, confirms-delta-sat, refused-not, certificate-refused-not, answered-not, script-refused-not, delta-so}
 use Rattle.check_run.proofs.Enough.{SessionIsOne, are_enough, texts_one}
 use Rattle.check_run.proofs.Joins.{join_so, join_unsat, join_delta, join_refused}
@@ -37,7 +38,7 @@ use Rattle.check_run.proofs.Means.{values_true}
 use Rattle.check_run.proofs.Resumes.{value-so, resume-so, resume-unsat, resume-delta, resume-refused}
 use Rattle.check_run.proofs.Apart.{apart}
 use Rattle.check_run.proofs.Single.{goal_has_one, goal_is, one_problem, one_value}
-use Rattle.check_run.specs.Headline.{IsWritten, IsSolved, IsConfirmed, IsConfirmedLeast, IsLeast, IsNoLeast, IsTrueAnswer, AnswersAreTrue, HasOneCheck, IsUnsat, IsTrueUnsat, UnsatIsTrue, IsTrueDeltaSat, DeltaSatIsTrue, IsRefusedCert, IsRefusedForGoal, IsTrueRefusal, RefusalIsTrue, IsUpgraded, IsTrueUpgrade, UpgradeIsTrue, IsPlanned, IsTruePlan, PlanIsTrue, delta_sat_word, unsat_word, confirmed_unsat_word, confirmed_delta_sat_word}
+use Rattle.check_run.specs.Headline.{IsWritten, IsSolved, IsConfirmed, IsConfirmedLeast, IsLeast, IsNoLeast, IsDemonstrated, IsTrueAnswer, AnswersAreTrue, HasOneCheck, IsUnsat, IsTrueUnsat, UnsatIsTrue, IsTrueDeltaSat, DeltaSatIsTrue, IsRefusedCert, IsRefusedForGoal, IsTrueRefusal, RefusalIsTrue, IsUpgraded, IsTrueUpgrade, UpgradeIsTrue, IsPlanned, IsTruePlan, PlanIsTrue, delta_sat_word, unsat_word, confirmed_unsat_word, confirmed_delta_sat_word}
 
 -- ---- the courses of a run that answers
 
@@ -119,10 +120,51 @@ solve-unsat words script cert_in parts old new shows single wrote =
     let text : unsat_text s ≡ solve_text so.p o.budget s so.value = written-is old.answer new.answer (unsat_text s) (solve_text so.p o.budget s so.value) wrote so.answer in
     unsat-so o script so.p old new so.cert so.built so.written (subst (λ (v : Value). IsAccepted so.p o.bound so.cert s v) (says-unsat so.p s o.budget so.value text) so.accepts)
 
-demo-unsat : (words : Demo) (script cert_in : List ℕ) (parts : List (List ℕ)) (old new : Sight) → IsShown (Some (demo words)) script cert_in parts old new Answered → IsTrueUnsat (Some (demo words)) script cert_in parts old new
-demo-unsat words script cert_in parts old new (course, can, status, went) =
+-- ---- the answers of demo
+
+demo-so : (words : Demo) (script cert_in : List ℕ) (parts : List (List ℕ)) (old new : Sight) → IsShown (Some (demo words)) script cert_in parts old new Answered → IsDemonstrated words.options (demo_script words.seed words.size) old new
+demo-so words script cert_in parts old new (course, can, status, went) =
     let so = can.2 in
-    unsat-so words.options (demo_script words.seed words.size) can.0 old new so.0 can.1 (went.cert ∙ ap (λ (c : Course). appended old.cert_out c.cert) so.2) so.1.accepted
+    record {
+      problem = can.0;
+      built = can.1;
+      cert = so.0;
+      value = so.1;
+      written = went.cert ∙ ap (λ (c : Course). appended old.cert_out c.cert) so.3;
+      answers = so.2;
+      answer = went.answer ∙ ap (λ (c : Course). appended old.answer c.answer) so.3;
+      say = value-so words.options.bound (demo_script words.seed words.size) can.0 so.0 (loosenings_of words.options) so.1 can.1 so.2.accepted;
+    }
+
+demo-unsat : (words : Demo) (script cert_in : List ℕ) (parts : List (List ℕ)) (old new : Sight) → IsShown (Some (demo words)) script cert_in parts old new Answered → IsTrueUnsat (Some (demo words)) script cert_in parts old new
+demo-unsat words script cert_in parts old new shows bytes atoms wrote =
+    let o : Options = words.options in
+    let made : List ℕ = demo_script words.seed words.size in
+    let so = demo-so words script cert_in parts old new shows in
+    let told : List ℕ = solve_text so.problem o.budget (loosenings_of o) so.value in
+    let text = written-is old.answer new.answer (demo_text bytes atoms unsat_word) (demo_text (length made) (length so.problem.atoms) told) wrote so.answer in
+    let none = demo_says_unsat bytes atoms (length made) (length so.problem.atoms) so.problem (loosenings_of o) o.budget so.value text in
+    unsat-so o made so.problem old new so.cert so.built so.written (subst (λ (v : Value). IsAccepted so.problem o.bound so.cert (loosenings_of o) v) none so.answers.accepted)
+
+demo-delta : (words : Demo) (script cert_in : List ℕ) (parts : List (List ℕ)) (old new : Sight) → IsShown (Some (demo words)) script cert_in parts old new Answered → IsTrueDeltaSat (Some (demo words)) script cert_in parts old new
+demo-delta words script cert_in parts old new shows bytes atoms wrote =
+    let o : Options = words.options in
+    let made : List ℕ = demo_script words.seed words.size in
+    let so = demo-so words script cert_in parts old new shows in
+    let told : List ℕ = solve_text so.problem o.budget (loosenings_of o) so.value in
+    let text = written-is old.answer new.answer (demo_text bytes atoms delta_sat_word) (demo_text (length made) (length so.problem.atoms) told) wrote so.answer in
+    let point = demo_says_delta_sat bytes atoms (length made) (length so.problem.atoms) so.problem (loosenings_of o) o.budget so.value text in
+    let accepts = subst (λ (v : Value). IsAccepted so.problem o.bound so.cert (loosenings_of o) v) point.1 so.answers.accepted in (
+      point.0,
+      record {
+        point = delta-so o.bound made so.problem so.cert (loosenings_of o) point.0 so.built accepts;
+        problem = so.problem;
+        built = so.built;
+        cert = so.cert;
+        written = so.written;
+        accepted = accepts;
+      },
+    )
 
 -- ---- what is checked
 
@@ -387,7 +429,7 @@ delta-sat-true (Some (minimize words)) script cert_in parts old new shows = tt
 delta-sat-true (Some (check words)) script cert_in parts old new shows = check-delta words script cert_in parts old new shows
 delta-sat-true (Some (upgrade words)) script cert_in parts old new shows = tt
 delta-sat-true (Some (plan words)) script cert_in parts old new shows = tt
-delta-sat-true (Some (demo words)) script cert_in parts old new shows = tt
+delta-sat-true (Some (demo words)) script cert_in parts old new shows = demo-delta words script cert_in parts old new shows
 delta-sat-true (Some (resume words)) script cert_in parts old new shows = resume-delta words script cert_in parts old new shows
 delta-sat-true (Some (join words)) script cert_in parts old new shows = join_delta words script cert_in parts old new shows
 
@@ -539,7 +581,7 @@ answer-true None script cert_in parts old new shows = tt
 answer-true (Some (solve words)) script cert_in parts old new shows = solve-so words script cert_in parts old new shows
 answer-true (Some (minimize words)) script cert_in parts old new shows = minimize-so words script cert_in parts old new shows
 answer-true (Some (check words)) script cert_in parts old new shows = check-so words script cert_in parts old new shows
-answer-true (Some (demo words)) script cert_in parts old new shows = tt
+answer-true (Some (demo words)) script cert_in parts old new shows = demo-so words script cert_in parts old new shows
 answer-true (Some (upgrade words)) script cert_in parts old new shows = tt
 answer-true (Some (plan words)) script cert_in parts old new shows = tt
 answer-true (Some (resume words)) script cert_in parts old new shows = resume-so words script cert_in parts old new shows

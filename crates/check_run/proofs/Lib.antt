@@ -1,6 +1,7 @@
 pub mod Apart
 pub mod Boths
 pub mod Bounds
+pub mod Demos
 pub mod Differ
 pub mod Ending
 pub mod Enough

@@ -40,7 +40,7 @@ said-solve : (ps : List (Problem × Bool)) (o : Options) (name : List ℕ) (cour
 said-solve ps o name course can = said-same course _ can.3 tt
 
 said-demo : (p : Problem) (o : Options) (name bytes : List ℕ) (course : Course) → CanDemo p o name bytes course → IsSaid course.status
-said-demo p o name bytes course can = said-same course _ can.2 tt
+said-demo p o name bytes course can = said-same course _ can.3 tt
 
 said-verdict : (v : SessionVerdict) → IsSaid (verdict_course v).status
 said-verdict (accepted s values) = tt

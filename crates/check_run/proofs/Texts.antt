@@ -3,9 +3,6 @@ use Rattle.std.proofs.Common.{◌≡◌, ℕ, List, [], ◌∷◌, ◌++◌, ◌
 use Rattle.std.specs.Prelude.{decimal}
 use Rattle.check_run.specs.Joined.{apart_text, not_joined_line}
 
-pub grouped : (a b c d e f : List ℕ) → a ++ (b ++ (c ++ (d ++ (e ++ f)))) ≡ a ++ b ++ c ++ d ++ e ++ f
-grouped a b c d e f = sym (simp append_assoc)
-
 place_last : (a kind line column : List ℕ) → (a ++ kind) ++ (32 ∷ (line ++ (58 ∷ (column ++ (10 ∷ []))))) ≡ a ++ kind ++ (32 ∷ (line ++ (58 ∷ column))) ++ (10 ∷ [])
 place_last a kind line column = simp append_assoc
 

@@ -1,11 +1,12 @@
 -- The certificate that answers a script's checks, whoever's search found it.
-use Rattle.std.specs.Prelude.{◌≡◌, ◌≤◌, ℕ, suc, List, [], ◌∷◌, ◌++◌, Bool, IsTrue, length}
+use Rattle.std.specs.Prelude.{◌≡◌, ◌≤◌, ℕ, suc, List, [], ◌∷◌, ◌++◌, Bool, IsTrue, length, not, nat_eq, codes, decimal}
+use Rattle.std.specs.List.{take_while}
 use Rattle.command_line.specs.declared.request.Options.{Options}
 use Rattle.poly_graph.specs.Problem.{Problem}
 use Rattle.cover_model.specs.State.{Loosenings}
 use Rattle.cert_model.specs.Due.{Standing, Value, at_point, left_open}
 use Rattle.cert_model.specs.Accepted.{IsAccepted}
-use Rattle.cert_model.specs.AnswerText.{has_open, solve_text}
+use Rattle.cert_model.specs.AnswerText.{has_open, solve_text, text_line}
 use Rattle.cert_model.specs.Session.{AreAccepted, IsHonestPart, part_branches}
 use Rattle.cert_model.specs.Standing.{IsHonest, branches}
 use Rattle.cert_upgrade.specs.Upgraded.{newest}
@@ -63,3 +64,13 @@ pub record AreAnswers (ps : List (Problem × Bool)) (options : Options) (cert : 
 abbrev pub solve_texts : ℕ → Loosenings → List (Problem × Bool) → List Value → List ℕ
 solve_texts budget s ((p, e) ∷ ps) (v ∷ values) = solve_text p budget s v ++ solve_texts budget s ps values
 solve_texts budget s _ _ = []
+
+-- ---- demo
+
+-- the first line of a text
+abbrev pub first_line : List ℕ → List ℕ
+first_line text = take_while (λ (b : ℕ). not (nat_eq b 10)) text
+
+-- the answer of demo: so many bytes of script and so many atoms, and the first line of what solve answers
+abbrev pub demo_text : ℕ → ℕ → List ℕ → List ℕ
+demo_text bytes atoms answer = text_line (codes "script " ++ decimal bytes ++ codes " atoms " ++ decimal atoms ++ codes " answer " ++ first_line answer)

@@ -8,9 +8,9 @@ use Rattle.poly_graph.specs.Problem.{Problem}
 use Rattle.cover_model.specs.State.{Loosenings}
 use Rattle.width_plan.specs.Plan as width
 use Rattle.width_plan.specs.Plan.{IsPlan, least_bits, no_atom, no_axis}
-use Rattle.cert_model.specs.Due.{Value, left_open}
+use Rattle.cert_model.specs.Due.{Value}
 use Rattle.cert_model.specs.Accepted.{accepted, refused}
-use Rattle.cert_model.specs.AnswerText.{check_text, goal_text, verdict_text, demo_text}
+use Rattle.cert_model.specs.AnswerText.{check_text, goal_text, solve_text, verdict_text}
 use Rattle.cert_model.specs.Least.{GoalVerdict, goal_verdict}
 use Rattle.goal_limit.specs.Limits.{has_room}
 use Rattle.cert_model.specs.Session.{SessionVerdict, AreAccepted, session_verdict}
@@ -24,7 +24,7 @@ use Rattle.script_reading.specs.Goals.{goal_in}
 use Rattle.script_forms.specs.Atoms.{goal_atom}
 use Rattle.script_reading.specs.Reader.{IsBuilt, commands_of}
 use Rattle.script_reading.specs.Session.{HasSession}
-use Rattle.check_run.specs.Answer.{loosenings_for, solve_texts, AreAnswers, IsAnswer}
+use Rattle.check_run.specs.Answer.{demo_text, loosenings_for, loosenings_of, solve_texts, AreAnswers, IsAnswer}
 use Rattle.check_run.specs.Course.{Start, Course, says, gives, behind}
 use Rattle.check_run.specs.Minimized.{CanMinimize}
 use Rattle.check_run.specs.Joined.{CanJoin, join_starts}
@@ -79,10 +79,11 @@ abbrev pub CanUpgrade : List (Problem × Bool) → Option ℕ → List ℕ → L
 CanUpgrade ps bound name out cert_in course =
     (tail : Course) × CanUpgradeBy (session_verdict ps bound cert_in) ps bound out cert_in tail × (course ≡ behind ((CertIn, name) ∷ []) tail)
 
--- `demo`: any certificate that leaves nothing of the problem, with a line on the script, which has no fault
+-- `demo`: any certificate that answers the problem, with a line on the script, which has no fault, and on the certificate's value
 abbrev pub CanDemo : Problem → Options → List ℕ → List ℕ → Course → Type 0
 CanDemo p options name bytes course =
-    (cert : List ℕ) × IsAnswer p options cert (left_open []) × (course ≡ gives name cert (demo_text (length bytes) (length p.atoms)))
+    (cert : List ℕ) × (value : Value) × IsAnswer p options cert value
+    × (course ≡ gives name cert (demo_text (length bytes) (length p.atoms) (solve_text p options.budget (loosenings_of options) value)))
 
 abbrev pub plan_text : width.Answer → List ℕ
 plan_text (least_bits bits) = least_bits_text bits

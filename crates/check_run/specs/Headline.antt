@@ -27,7 +27,7 @@ use Rattle.smt_script.specs.Levels.{Asked, checks_of}
 use Rattle.script_reading.specs.Goals.{goal_in}
 use Rattle.script_reading.specs.Reader.{commands_of, HasProblem, IsBuilt}
 use Rattle.script_reading.specs.Session.{HasSession, asked_in, steps_of_text}
-use Rattle.check_run.specs.Answer.{loosenings_for, loosenings_of, solve_texts, AreAnswers, IsAnswer}
+use Rattle.check_run.specs.Answer.{demo_text, loosenings_for, loosenings_of, solve_texts, AreAnswers, IsAnswer}
 use Rattle.check_run.specs.declared.status.Status.TheVariants.{Answered, CertRefused}
 use Rattle.check_run.specs.Course.{Course, appended}
 use Rattle.check_run.specs.Can.{Can, ArePlans, check_texts, plan_texts}
@@ -156,7 +156,19 @@ pub record IsJoined (bound : Option ℕ) (script : List ℕ) (parts : List (List
   pub answer : new.answer ≡ appended old.answer (check_text loosenings value)
   pub say : IsTrueValue bound loosenings (commands_of bound script) value
 
--- `solve`, `minimize`, `check`, `resume` and `join` answer where that is so.
+-- What was written as certificate answers the problem of the demo's script, the answer is a line on the script and on the certificate's value, and
+-- what that says of the script is so.
+pub record IsDemonstrated (options : Options) (script : List ℕ) (old new : Sight) : Type 0 where
+  pub problem : Problem
+  pub built : IsBuilt options.bound script problem
+  pub cert : List ℕ
+  pub value : Value
+  pub written : new.cert_out ≡ appended old.cert_out cert
+  pub answers : IsAnswer problem options cert value
+  pub answer : new.answer ≡ appended old.answer (demo_text (length script) (length problem.atoms) (solve_text problem options.budget (loosenings_of options) value))
+  pub say : IsTrueValue options.bound (loosenings_of options) (commands_of options.bound script) value
+
+-- `solve`, `minimize`, `check`, `resume`, `join` and `demo` answer where that is so.
 abbrev pub IsTrueAnswer : Option Command → List ℕ → List ℕ → List (List ℕ) → Sight → Sight → Type 0
 IsTrueAnswer (Some (solve words)) script cert_in parts old new = IsSolved words.options script old new
 IsTrueAnswer (Some (minimize words)) script cert_in parts old new = IsLeast words script old new ⊎ IsNoLeast words script old new
@@ -164,6 +176,7 @@ IsTrueAnswer (Some (check words)) script cert_in parts old new =
     IsConfirmed words.bound script cert_in old new ⊎ IsConfirmedLeast words.bound script cert_in old new
 IsTrueAnswer (Some (resume words)) script cert_in parts old new = IsResumed words script cert_in old new
 IsTrueAnswer (Some (join words)) script cert_in parts old new = IsJoined words.bound script parts old new
+IsTrueAnswer (Some (demo words)) script cert_in parts old new = IsDemonstrated words.options (demo_script words.seed words.size) old new
 IsTrueAnswer _ script cert_in parts old new = Unit {0}
 
 -- ---- one check
@@ -207,7 +220,7 @@ unsat_word = text_line (codes "unsat")
 abbrev pub confirmed_unsat_word : List ℕ
 confirmed_unsat_word = text_line (codes "confirmed unsat")
 
--- The answer is `unsat` at the margin of the words, or `demo`'s, or at the margin of the certificate that was read, or confirms it at some margin: so it is, of a script with one check.
+-- The answer is `unsat` at the margin of the words, or at that of the certificate that was read, or confirms it at some margin: so it is, of a script with one check.
 abbrev pub IsTrueUnsat : Option Command → List ℕ → List ℕ → List (List ℕ) → Sight → Sight → Type 0
 IsTrueUnsat (Some (solve words)) script cert_in parts old new =
     HasOneCheck script → IsWritten (unsat_text (loosenings_of words.options)) old new → IsUnsat words.options script old new
@@ -216,7 +229,8 @@ IsTrueUnsat (Some (minimize words)) script cert_in parts old new =
 IsTrueUnsat (Some (check words)) script cert_in parts old new =
     HasOneCheck script → (rest : List ℕ) → IsWritten (confirmed_unsat_word ++ rest) old new →
     (s : Loosenings) × IsWritten (check_text s (left_open [])) old new × IsConfirmedUnsat words.bound script cert_in s
-IsTrueUnsat (Some (demo words)) script cert_in parts old new = IsUnsat words.options (demo_script words.seed words.size) old new
+IsTrueUnsat (Some (demo words)) script cert_in parts old new =
+    (bytes atoms : ℕ) → IsWritten (demo_text bytes atoms unsat_word) old new → IsUnsat words.options (demo_script words.seed words.size) old new
 IsTrueUnsat (Some (upgrade words)) script cert_in parts old new = Unit {0}
 IsTrueUnsat (Some (plan words)) script cert_in parts old new = Unit {0}
 IsTrueUnsat (Some (resume words)) script cert_in parts old new =
@@ -249,7 +263,7 @@ delta_sat_word = text_line (codes "delta-sat")
 abbrev pub confirmed_delta_sat_word : List ℕ
 confirmed_delta_sat_word = text_line (codes "confirmed delta-sat")
 
--- The answer is `delta-sat` with a point, or confirms such a one: the point is one of the script, which has one check.
+-- The answer is `delta-sat`, or confirms it: the certificate's point is one of the script, which has one check.
 abbrev pub IsTrueDeltaSat : Option Command → List ℕ → List ℕ → List (List ℕ) → Sight → Sight → Type 0
 IsTrueDeltaSat (Some (solve words)) script cert_in parts old new =
     HasOneCheck script → (rest : List ℕ) → IsWritten (delta_sat_word ++ rest) old new →
@@ -265,6 +279,9 @@ IsTrueDeltaSat (Some (resume words)) script cert_in parts old new =
 IsTrueDeltaSat (Some (join words)) script cert_in parts old new =
     (rest : List ℕ) → IsWritten (confirmed_delta_sat_word ++ rest) old new →
     (s : Loosenings) × (space : Space) × IsWritten (check_text s (at_point space)) old new × IsWrittenPoint words.bound script s space old new
+IsTrueDeltaSat (Some (demo words)) script cert_in parts old new =
+    (bytes atoms : ℕ) → IsWritten (demo_text bytes atoms delta_sat_word) old new →
+    (space : Space) × IsWrittenPoint words.options.bound (demo_script words.seed words.size) (loosenings_of words.options) space old new
 IsTrueDeltaSat _ script cert_in parts old new = Unit {0}
 
 -- ---- certificates that are refused, or written again
@@ -384,7 +401,7 @@ IsTruePlan _ script cert_in parts old new = Unit {0}
 
 -- ---- runs
 
--- where `solve`, `check` or `join` answers, the answer is the texts of a certificate's values, and what each says of its check is so
+-- where `solve`, `check`, `join` or `demo` answers, the answer tells of a certificate's values, and what each says of its check is so
 abbrev pub AnswersAreTrue : Run → Type 0
 AnswersAreTrue r = OnInput r (λ script cert_in parts. r.status ≡ Answered → IsTrueAnswer r.command script cert_in parts r.old r.new)
 

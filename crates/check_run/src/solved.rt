@@ -3,7 +3,8 @@ ghost use Rattle.std.specs.Prelude.{◌≡◌, IfOk, List};
 ghost use Rattle.poly_graph.specs.ProblemViews.{problem_of};
 ghost use Rattle.poly_graph.specs.Marks.{Mark};
 ghost use Rattle.ival.specs.SpaceViews.{space_of};
-ghost use Rattle.cert_model.specs.AnswerText.{budget_text, delta_sat_text, demo_text, unsat_text, width_text};
+ghost use Rattle.cert_model.specs.AnswerText.{budget_text, delta_sat_text, unsat_text, width_text};
+ghost use Rattle.check_run.specs.Answer.{demo_text, first_line as line_of};
 ghost use Rattle.check_run.specs.Resumed.{part_text};
 ghost use Rattle.check_run.specs.Loosened.{AtDelta, AtMargin};
 
@@ -78,10 +79,24 @@ pub fn width(
     Ok(text)
 }
 
-/// A script of so many bytes and atoms was made, and no point satisfies it.
-pub fn demo(alloc: Global, bytes: u64, atoms: u64) -> Result<Vec<u8>, AllocError>
-    ensures { IfOk result (λ text. text.items ≡ demo_text bytes atoms) }
+// The bytes of a text before its first line feed.
+fn first_line(text: &[u8]) -> &[u8]
+    ensures { result.now ≡ line_of text.now }
 {
-    let text = format!(in alloc; "script {bytes} atoms {atoms} answer unsat\n")?;
-    Ok(text.into_bytes())
+    let mut end = 0;
+    while end < text.len() && text[end] != b'\n' {
+        end += 1;
+    }
+    &text[..end]
+}
+
+/// A script of so many bytes and atoms was made, of which `solve` answers this.
+pub fn demo(alloc: Global, bytes: u64, atoms: u64, answer: &[u8]) -> Result<Vec<u8>, AllocError>
+    ensures { IfOk result (λ text. text.items ≡ demo_text bytes atoms answer.now) }
+{
+    let head = format!(in alloc; "script {bytes} atoms {atoms} answer ")?;
+    let mut text = head.into_bytes();
+    text.extend_from_slice(first_line(answer))?;
+    text.push(b'\n')?;
+    Ok(text)
 }

@@ -8,6 +8,28 @@ use std::alloc::{AllocError, Global};
 
 const USUAL_MARGIN: &str = "20";
 
+const SCRIPT_HELP: &str = "The file of a script in SMT-LIB 2.6; - stands for standard input";
+
+const CERT_HELP: &str =
+    "The certificate's file; - stands for standard output, or input where it is read";
+
+const OUT_HELP: &str = "The file of the certificate that is written";
+
+const PROGRAM_LAST: &str = "\
+A file named - is standard input or standard output.
+`dpoly COMMAND --help` says which options a command has, `dpoly --version` the version.
+
+Exit status: 0 answered; 1 the certificate, 2 the script, 3 the arguments are refused;
+4 a file cannot be read; 5 a file cannot be written; 6 out of memory.";
+
+const CHECKER_LAST: &str = "\
+A file named - is standard input. `dpoly-check --version` says the version.
+
+Exit status: 0 answered; 1 the certificate, 2 the script, 3 the arguments are refused;
+4 a file cannot be read; 5 the answer cannot be written; 6 out of memory.
+
+Example: dpoly-check braking.smt2 braking.cert";
+
 /// A word or an option of a command.
 #[derive(Clone, Copy)]
 pub enum Part {
@@ -128,12 +150,12 @@ fn share_option<'a>(alloc: Global) -> Arg<'a>
         .default_value("1/1")
 }
 
-// A word that has to be there.
-fn word<'a>(alloc: Global, id: &'a str) -> Arg<'a>
+// A word that has to be there, and its help.
+fn word<'a>(alloc: Global, id: &'a str, help: &'a str) -> Arg<'a>
     ensures rule { rule_of result ≡ word_rule id.entry.now }
     ensures local { result.global ≡ false }
 {
-    Arg::new(alloc, id).required(true)
+    Arg::new(alloc, id).required(true).help(help)
 }
 
 // The last words, two or more.
@@ -155,6 +177,7 @@ fn seed_word<'a>(alloc: Global) -> Arg<'a>
 {
     Arg::new(alloc, "seed")
         .required(true)
+        .help("A number below 2^64, of which the script is made")
         .value_parser(value_parser!(u64))
 }
 
@@ -164,6 +187,7 @@ fn size_word<'a>(alloc: Global) -> Arg<'a>
 {
     Arg::new(alloc, "size")
         .required(true)
+        .help("How large the script is; 1 to 10000")
         .value_parser(value_parser!(u32).range(1..=10000))
 }
 
@@ -172,10 +196,10 @@ fn arg_of<'a>(alloc: Global, part: Part) -> Arg<'a>
     ensures local { result.global ≡ false }
 {
     match part {
-        Part::Script => word(alloc, "script"),
-        Part::Cert => word(alloc, "cert"),
+        Part::Script => word(alloc, "script", SCRIPT_HELP),
+        Part::Cert => word(alloc, "cert", CERT_HELP),
         Part::Certs => certs_word(alloc),
-        Part::Out => word(alloc, "out"),
+        Part::Out => word(alloc, "out", OUT_HELP),
         Part::Seed => seed_word(alloc),
         Part::Size => size_word(alloc),
         Part::Delta => delta_option(alloc),
@@ -371,7 +395,7 @@ pub fn checker_command<'a>(alloc: Global) -> Result<Command<'a>, AllocError>
         alloc,
         "dpoly-check",
         "Checks a certificate of a script of bounded polynomial constraints",
-        "A file named - is standard input. Example: dpoly-check braking.smt2 braking.cert",
+        CHECKER_LAST,
     );
     with_parts(alloc, command, &CHECK)
 }
@@ -429,7 +453,7 @@ pub fn program_command<'a>(alloc: Global) -> Result<Command<'a>, AllocError>
         alloc,
         "dpoly",
         "Decides bounded polynomial constraints (SMT-LIB 2.6, QF_NRA), with certificates",
-        "A file named - is standard input or standard output.",
+        PROGRAM_LAST,
     )
     .subcommand_required(true);
     with_commands(alloc, command, &NAMES)

@@ -4,7 +4,7 @@ use Rattle.std.specs.Prelude.{slice_get, slice_set, sum_by}
 use Rattle.std.proofs.lemmas.List.Sums.{sum_by-cons}
 use Rattle.poly_graph.specs.Problem.{Problem, IsProblem}
 use Rattle.cover_model.specs.State.{State, Loosenings, root_state, covers}
-use Rattle.cover_model.specs.Rules.{Line, open_line, stuck, one, rule, narrow_by, by_range, by_off_range, by_combination, end_by, void_by, false_form, by_lemma, mark_by, unit_atom, ban_atom, branch_by, cut_axis, flip_axis, case_atom, stay_by, open_state, stuck_atom}
+use Rattle.cover_model.specs.Rules.{Line, narrow_by, end_by, mark_by, branch_by, stay_by, open_line, one, rule}
 use Rattle.cover_model.specs.Space.{IsGridSpace}
 use Rattle.cover_model.specs.Derivation.{leaf, fork}
 use Rattle.cover_model.specs.Honest.{branch_count}
@@ -27,9 +27,7 @@ use Rattle.cover_book.proofs.Nodes.{begins, at_node, at_fresh, covered_after}
 
 module _ (p : Problem) (s : Loosenings) (lemmas : List State) where
   step-counts : (S S' : State) (l : Line) → rule p s lemmas S l ≡ Some (one S') → branch_count l ≡ 0
-  step-counts S S' (branch_by (cut_axis axis c)) e = no_when _ _ S' e (λ q. cc)
-  step-counts S S' (branch_by (flip_axis axis)) e = no_when _ _ S' e (λ q. cc)
-  step-counts S S' (branch_by (case_atom j)) e = no_when _ _ S' e (λ q. cc)
+  step-counts S S' (branch_by b) e = no_when _ _ S' e (λ q. cc)
   step-counts S S' _ e = refl
 
   pub steps_count : (S T : State) (ls : List Line) → StepsLead p s lemmas S ls T → sum_by branch_count ls ≡ 0
@@ -37,27 +35,15 @@ module _ (p : Problem) (s : Loosenings) (lemmas : List State) where
   steps_count S T (l ∷ ls) e = sum_by-cons branch_count l ls ∙ omega (arith, step-counts S e.0 l e.1, steps_count e.0 T ls e.2)
 
 one-end : (l : Line) (S : State) → children l S ≡ None → branch_count l ≡ 0
-one-end (branch_by (cut_axis axis c)) S e = cc
-one-end (branch_by (flip_axis axis)) S e = cc
-one-end (branch_by (case_atom j)) S e = cc
+one-end (branch_by b) S e = cc
 one-end _ S e = refl
 
 pub two_ends : (l : Line) (S : State) (o : State × State) → children l S ≡ Some o → (branch_count l ≡ 1) × IsTrue (is_branch l)
-two_ends (branch_by (cut_axis axis c)) S o e = (refl, refl)
-two_ends (branch_by (flip_axis axis)) S o e = (refl, refl)
-two_ends (branch_by (case_atom j)) S o e = (refl, refl)
-two_ends (narrow_by (by_range j)) S o e = cc
-two_ends (mark_by (unit_atom j)) S o e = cc
-two_ends (mark_by (ban_atom j i)) S o e = cc
-two_ends (end_by (void_by (by_range j))) S o e = cc
-two_ends (narrow_by (by_off_range j)) S o e = cc
-two_ends (end_by (void_by (by_off_range j))) S o e = cc
-two_ends (narrow_by (by_combination ms)) S o e = cc
-two_ends (end_by (void_by (by_combination ms))) S o e = cc
-two_ends (end_by false_form) S o e = cc
-two_ends (end_by (by_lemma i)) S o e = cc
-two_ends (stay_by open_state) S o e = cc
-two_ends (stay_by (stuck_atom j)) S o e = cc
+two_ends (branch_by b) S o e = (refl, refl)
+two_ends (narrow_by n) S o e = cc
+two_ends (end_by x) S o e = cc
+two_ends (mark_by m) S o e = cc
+two_ends (stay_by t) S o e = cc
 
 no-more : (c j : ℕ) → j < c → occurrences j (c ∷ suc c ∷ []) ≡ 0
 no-more c j h = occurs_other j c (suc c ∷ []) (λ q. absurd (omega (arith, q, h))) ∙ occurs_other j (suc c) [] (λ q. absurd (omega (arith, q, h)))

@@ -1,11 +1,11 @@
 -- The tree of a book is lawful, leaves the states of its live and stuck nodes, and is honest.
-use Rattle.std.proofs.Common.{◌≡◌, ℕ, List, [], ◌∷◌, ◌++◌, Bool, true, false, cond, not, ◌&&◌, Option, Some, None, IsTrue, refl, ap, ap₂, sym, ◌∙◌, subst, true≢false}
+use Rattle.std.proofs.Common.{◌≡◌, ℕ, List, [], ◌∷◌, ◌++◌, Bool, true, false, cond, Option, Some, None, IsTrue, refl, ap, ap₂, sym, ◌∙◌, subst, true≢false}
 use Rattle.std.specs.Prelude.{slice_get, IfSome}
 use Rattle.std.specs.List.{AllByRecursion}
 use Rattle.poly_graph.specs.Problem.{Problem, IsProblem}
-use Rattle.cover_model.specs.State.{State, Loosenings, in_yes, undecided, with_yes, with_no, may}
+use Rattle.cover_model.specs.State.{State, Loosenings}
 use Rattle.interval_model.specs.Space.{Space}
-use Rattle.cover_model.specs.Rules.{Line, open_line, stuck, Left, one, stays, rule, when, pulled, narrowing, narrowing_off, combining, can_push, can_combine, lemma_covers, is_stuck_atom, narrow_by, by_range, by_off_range, by_combination, end_by, void_by, false_form, by_lemma, mark_by, unit_atom, ban_atom, branch_by, cut_axis, flip_axis, case_atom, stay_by, open_state, stuck_atom}
+use Rattle.cover_model.specs.Rules.{Line, narrow_by, end_by, mark_by, branch_by, stay_by, open_line, Left, one, stays, rule, when, pulled, can_narrow, narrowed_to, can_mark, marked, can_stay}
 use Rattle.cover_model.specs.Derivation.{Tree, leaf, fork, tree_lines, Lawful, at_closed, at_left, at_fork}
 use Rattle.cover_model.specs.Honest.{is_honest}
 use Rattle.poly_graph.specs.ProblemViews.{IsWhole}
@@ -40,21 +40,11 @@ no-pull S false o h = elim h [ ]
 
 -- an end that neither closes nor parts leaves its state
 ending-stays : (p : Problem) (s : Loosenings) (lemmas : List State) (S : State) (l : Line) → IsEnding (rule p s lemmas S l) → is_closing l ≡ false → children l S ≡ None → rule p s lemmas S l ≡ Some stays
-ending-stays p s lemmas S (stay_by (stuck_atom j)) h c d = stays-when (is_stuck_atom p s S j) h
-ending-stays p s lemmas S (stay_by open_state) h c d = refl
-ending-stays p s lemmas S (end_by (void_by (by_range j))) h c d = absurd (true≢false c)
-ending-stays p s lemmas S (end_by (void_by (by_off_range j))) h c d = absurd (true≢false c)
-ending-stays p s lemmas S (end_by (void_by (by_combination ms))) h c d = absurd (true≢false c)
-ending-stays p s lemmas S (end_by false_form) h c d = absurd (true≢false c)
-ending-stays p s lemmas S (end_by (by_lemma i)) h c d = absurd (true≢false c)
-ending-stays p s lemmas S (branch_by (cut_axis axis x)) h c d = cc
-ending-stays p s lemmas S (branch_by (flip_axis axis)) h c d = cc
-ending-stays p s lemmas S (branch_by (case_atom j)) h c d = cc
-ending-stays p s lemmas S (narrow_by (by_range j)) h c d = no-pull S (in_yes S j) (narrowing p s S j) h
-ending-stays p s lemmas S (narrow_by (by_off_range j)) h c d = no-pull S (can_push p s S j) (narrowing_off p s S j) h
-ending-stays p s lemmas S (narrow_by (by_combination ms)) h c d = no-pull S (can_combine p s S ms) (combining p s S ms) h
-ending-stays p s lemmas S (mark_by (unit_atom j)) h c d = no-one (with_yes S j) (undecided S j && not (may p s (with_no S j))) h
-ending-stays p s lemmas S (mark_by (ban_atom j i)) h c d = no-one (with_no S j) (undecided S j && lemma_covers lemmas i (with_yes S j)) h
+ending-stays p s lemmas S (stay_by t) h c d = stays-when (can_stay p s S t) h
+ending-stays p s lemmas S (end_by e) h c d = absurd (true≢false c)
+ending-stays p s lemmas S (branch_by b) h c d = cc
+ending-stays p s lemmas S (narrow_by n) h c d = no-pull S (can_narrow p s S n) (narrowed_to p s S n) h
+ending-stays p s lemmas S (mark_by m) h c d = no-one (marked S m) (can_mark p s lemmas S m) h
 
 module _ (p : Problem) (m : Margins) (lemmas : List State) (P : Standing → Type 0)
     (honestly : (x : Standing) → (x.does ≡ open_line → ⊥) → IsTrue (is_honest p m.least_bits (loosenings_of m) x.state x.does) → P x) where
@@ -70,21 +60,11 @@ module _ (p : Problem) (m : Margins) (lemmas : List State) (P : Standing → Typ
 
   -- a step is honest, and not open
   step-honest : (S S' : State) (l : Line) → rule p s lemmas S l ≡ Some (one S') → IsTrue (is_honest p m.least_bits s S l) × (l ≡ open_line → ⊥)
-  step-honest S S' (narrow_by (by_range j)) e = (refl, λ q. cc)
-  step-honest S S' (mark_by (unit_atom j)) e = (refl, λ q. cc)
-  step-honest S S' (mark_by (ban_atom j i)) e = (refl, λ q. cc)
-  step-honest S S' (end_by (void_by (by_range j))) e = (refl, λ q. cc)
-  step-honest S S' (narrow_by (by_off_range j)) e = (refl, λ q. cc)
-  step-honest S S' (end_by (void_by (by_off_range j))) e = (refl, λ q. cc)
-  step-honest S S' (narrow_by (by_combination ms)) e = (refl, λ q. cc)
-  step-honest S S' (end_by (void_by (by_combination ms))) e = (refl, λ q. cc)
-  step-honest S S' (end_by false_form) e = (refl, λ q. cc)
-  step-honest S S' (end_by (by_lemma i)) e = (refl, λ q. cc)
-  step-honest S S' (branch_by (cut_axis axis c)) e = no_when _ _ S' e (λ q. cc)
-  step-honest S S' (branch_by (flip_axis axis)) e = no_when _ _ S' e (λ q. cc)
-  step-honest S S' (branch_by (case_atom j)) e = no_when _ _ S' e (λ q. cc)
-  step-honest S S' (stay_by open_state) e = cc
-  step-honest S S' (stay_by (stuck_atom j)) e = no_when _ stays S' e (λ q. cc)
+  step-honest S S' (narrow_by n) e = (refl, λ q. cc)
+  step-honest S S' (mark_by x) e = (refl, λ q. cc)
+  step-honest S S' (end_by x) e = (refl, λ q. cc)
+  step-honest S S' (branch_by b) e = no_when _ _ S' e (λ q. cc)
+  step-honest S S' (stay_by t) e = no_when _ stays S' e (λ q. cc)
 
   left-after : (S T : State) (ls : List Line) (t : Tree) → StepsLead p s lemmas S ls T → left_standing p s lemmas S (tree_after ls t) ≡ left_standing p s lemmas T t
   left-after S T [] t e = ap (λ (U : State). left_standing p s lemmas U t) e

@@ -13,7 +13,7 @@ use Rattle.cover_model.specs.Derivation.{leaf, Lawful}
 use Rattle.cover_model.specs.Fits.{IsShownAt}
 use Rattle.cover_data.specs.declared.kept.KeptPatch.{KeptPatch}
 use Rattle.cover_data.specs.declared.step.End.{End}
-use Rattle.cover_data.specs.declared.step.End.TheVariants.{Void, VoidNo, VoidCombine, False, By, Cut, Flip, Case, Stuck}
+use Rattle.cover_data.specs.declared.step.End.TheVariants.{Close, Part, Stuck}
 use Rattle.cover_data.specs.Models.{KeptModel}
 use Rattle.cover_data.specs.Views.{kept_of, end_of, end_line}
 use Rattle.cover_data.specs.Runs.{AreKept, is_closing, IsClosed, IsRun, closes, children, tree_after}
@@ -48,14 +48,8 @@ never_live b h n S e = nowhere h.axis n S (subst (λ (xs : List NodeModel). slic
 
 -- the end of a patch is no open line
 end-not-open : (e : End) → end_line e ≡ open_line → ⊥
-end-not-open (Void j) h = cc
-end-not-open (VoidNo j) h = cc
-end-not-open (VoidCombine c) h = cc
-end-not-open False h = cc
-end-not-open (By i) h = cc
-end-not-open (Cut axis c) h = cc
-end-not-open (Flip axis) h = cc
-end-not-open (Case j) h = cc
+end-not-open (Close c) h = cc
+end-not-open (Part b) h = cc
 end-not-open (Stuck j) h = cc
 
 some-end : (o : Option End) (l : Line) → end_of o ≡ Some l → l ≡ open_line → ⊥

@@ -10,8 +10,8 @@ use Rattle.interval_model.specs.Space.{Domain, real_domain, bool_domain, Space, 
 use Rattle.cover_model.specs.Space.{IsGridSpace}
 use Rattle.poly_graph.specs.Problem.{Declared, real_between, any_bool, Axis, Problem, IsProblem, atom_at}
 use Rattle.poly_graph.specs.Marks.{Mark, is_yes, is_no, mark_at, undecided_in, marked_yes, marked_no}
-use Rattle.cover_model.specs.State.{State, Loosenings, in_yes, in_no, undecided, with_yes, with_no, with_space}
-use Rattle.cover_model.specs.Rules.{Line, Left, closed, one, stays, rule, when, pulled, voided, narrowing, narrowing_off, has_version_2, is_one_sided, in_no_one_sided, can_push, combining, is_combination, are_combinable, can_combine, is_stuck_atom, narrow_by, by_range, by_off_range, by_combination, end_by, void_by, false_form, by_lemma, mark_by, unit_atom, ban_atom, branch_by, cut_axis, flip_axis, case_atom, stay_by, open_state, stuck_atom}
+use Rattle.cover_model.specs.State.{State, Loosenings, in_yes, in_no, undecided, with_space}
+use Rattle.cover_model.specs.Rules.{Line, narrow_by, end_by, mark_by, branch_by, stay_by, Narrowing, by_range, by_off_range, by_combination, void_by, false_form, by_lemma, Marking, unit_atom, ban_atom, Branching, cut_axis, flip_axis, case_atom, open_state, stuck_atom, Left, closed, one, stays, rule, when, pulled, voided, can_narrow, narrowed_to, has_version_2, is_one_sided, in_no_one_sided, can_push, is_combination, are_combinable, can_combine, can_mark, marked, can_branch, is_stuck_atom}
 use Rattle.cover_model.specs.Honest.{is_honest, not_shown, settled, is_small, none_below}
 use Rattle.cover_model.specs.Fits.{FitsAxis, FitsAxes, FitsProblem}
 use Rattle.cover_model.proofs.Stuck.{some_atom_is_stuck}
@@ -106,9 +106,9 @@ pub no_when : {A : Type 0} (t : Bool) (l : Left) (S' : State) → when t l ≡ S
 no_when true l S' h f = f cc
 no_when false l S' h f = cc
 
-marked : (t : Bool) (T S' : State) → when t (one T) ≡ Some (one S') → S' ≡ T
-marked true T S' h = cc
-marked false T S' h = cc
+only-one : (t : Bool) (T S' : State) → when t (one T) ≡ Some (one S') → S' ≡ T
+only-one true T S' h = cc
+only-one false T S' h = cc
 
 module _ (p : Problem) (g : IsProblem p) (m : Margins) (lemmas : List State) where
   abbrev s : Loosenings
@@ -138,46 +138,44 @@ module _ (p : Problem) (g : IsProblem p) (m : Margins) (lemmas : List State) whe
   combined-there : (S : State) (ms : Multipliers) → IsTrue (can_combine p s S ms) → IsTrue (are_atoms p ms)
   combined-there S ms h = combinable-there S ms (both_true (has_version_2 s && is_combination ms) (are_combinable p S ms) h).1
 
+  -- what narrows names atoms that are there
+  narrowing-names : (S : State) → HasMarks S → (n : Narrowing) → IsTrue (can_narrow p s S n) → IsTrue (names_well p (narrow_by n)) × IsTrue (names_well p (end_by (void_by n)))
+  narrowing-names S h (by_range j) e = let k = atom-there S j h (yes-below S.marks j e) in (k, k)
+  narrowing-names S h (by_off_range j) e = let k = atom-there S j h (no-below S.marks j (in-no S j e)) in (k, k)
+  narrowing-names S h (by_combination ms) e = let k = combined-there S ms e in (k, k)
+
+  -- what marks names an atom that is there, and leaves as many marks
+  marking-names : (S : State) → HasMarks S → (x : Marking) → IsTrue (can_mark p s lemmas S x) → IsTrue (names_well p (mark_by x)) × HasMarks (marked S x)
+  marking-names S h (unit_atom j) e = (atom-there S j h (undecided_below S.marks j (both_true (undecided S j) _ e).0), length-set S.marks j marked_yes ∙ h)
+  marking-names S h (ban_atom j i) e = (atom-there S j h (undecided_below S.marks j (both_true (undecided S j) _ e).0), length-set S.marks j marked_no ∙ h)
+
   step-names : (S S' : State) (l : Line) → HasMarks S → rule p s lemmas S l ≡ Some (one S') → IsTrue (names_well p l) × HasMarks S'
-  step-names S S' (narrow_by (by_range j)) h e = let k = cond-true (in_yes S j) (pulled S (narrowing p s S j)) (one S') e in
-      (atom-there S j h (yes-below S.marks j k.0), ap length (pulled-keeps S S' (narrowing p s S j) k.1) ∙ h)
-  step-names S S' (mark_by (unit_atom j)) h e = let k = both_true (undecided S j) _ (when-true _ _ _ e) in let q : S' ≡ with_yes S j = marked _ (with_yes S j) S' e in
-      (atom-there S j h (undecided_below S.marks j k.0), ap (λ (T : State). length T.marks) q ∙ length-set S.marks j marked_yes ∙ h)
-  step-names S S' (mark_by (ban_atom j i)) h e = let k = both_true (undecided S j) _ (when-true _ _ _ e) in let q : S' ≡ with_no S j = marked _ (with_no S j) S' e in
-      (atom-there S j h (undecided_below S.marks j k.0), ap (λ (T : State). length T.marks) q ∙ length-set S.marks j marked_no ∙ h)
-  step-names S S' (end_by (void_by (by_range j))) h e = let k = cond-true (in_yes S j) (voided (narrowing p s S j)) (one S') e in no_void (narrowing p s S j) k.1
-  step-names S S' (narrow_by (by_off_range j)) h e = let k = cond-true (can_push p s S j) (pulled S (narrowing_off p s S j)) (one S') e in
-      (atom-there S j h (no-below S.marks j (in-no S j k.0)), ap length (pulled-keeps S S' (narrowing_off p s S j) k.1) ∙ h)
-  step-names S S' (narrow_by (by_combination ms)) h e = let k = cond-true (can_combine p s S ms) (pulled S (combining p s S ms)) (one S') e in
-      (combined-there S ms k.0, ap length (pulled-keeps S S' (combining p s S ms) k.1) ∙ h)
-  step-names S S' (end_by (void_by (by_combination ms))) h e = let k = cond-true (can_combine p s S ms) (voided (combining p s S ms)) (one S') e in no_void (combining p s S ms) k.1
-  step-names S S' (end_by (void_by (by_off_range j))) h e = let k = cond-true (can_push p s S j) (voided (narrowing_off p s S j)) (one S') e in no_void (narrowing_off p s S j) k.1
+  step-names S S' (narrow_by n) h e = let k = cond-true (can_narrow p s S n) (pulled S (narrowed_to p s S n)) (one S') e in
+      ((narrowing-names S h n k.0).0, ap length (pulled-keeps S S' (narrowed_to p s S n) k.1) ∙ h)
+  step-names S S' (mark_by x) h e = let k = marking-names S h x (when-true _ _ _ e) in (k.0, subst HasMarks (sym (only-one _ (marked S x) S' e)) k.1)
+  step-names S S' (end_by (void_by n)) h e = let k = cond-true (can_narrow p s S n) (voided (narrowed_to p s S n)) (one S') e in no_void (narrowed_to p s S n) k.1
   step-names S S' (end_by false_form) h e = no_when _ closed S' e (λ q. cc)
   step-names S S' (end_by (by_lemma i)) h e = no_when _ closed S' e (λ q. cc)
-  step-names S S' (branch_by (cut_axis axis c)) h e = no_when _ _ S' e (λ q. cc)
-  step-names S S' (branch_by (flip_axis axis)) h e = no_when _ _ S' e (λ q. cc)
-  step-names S S' (branch_by (case_atom j)) h e = no_when _ _ S' e (λ q. cc)
-  step-names S S' (stay_by open_state) h e = cc
-  step-names S S' (stay_by (stuck_atom j)) h e = no_when _ stays S' e (λ q. cc)
+  step-names S S' (branch_by b) h e = no_when _ _ S' e (λ q. cc)
+  step-names S S' (stay_by t) h e = no_when _ stays S' e (λ q. cc)
 
   steps-name : (S T : State) (ls : List Line) → HasMarks S → StepsLead p s lemmas S ls T → AllByRecursion (λ (l : Line). IsTrue (names_well p l)) ls
   steps-name S T [] h e = tt
   steps-name S T (l ∷ ls) h e = let k = step-names S e.0 l h e.1 in (k.0, steps-name e.0 T ls k.1 e.2)
 
+  -- a branch names an axis or an atom that is there
+  branching-names : (S : State) → FitsProblem p S → (b : Branching) → IsTrue (can_branch S b) → IsTrue (names_well p (branch_by b))
+  branching-names S f (cut_axis axis c) e = le-leb (suc axis) (length p.axes) (omega (arith, axes_length p.axes S.space f.axes, tested-below (strictly_inside c) axis S.space e))
+  branching-names S f (flip_axis axis) e = le-leb (suc axis) (length p.axes) (omega (arith, axes_length p.axes S.space f.axes, tested-below is_undecided axis S.space e))
+  branching-names S f (case_atom j) e = atom-there S j f.marks (undecided_below S.marks j e)
+
   end-names : (S : State) → FitsProblem p S → IsGridSpace S.space → (l : Line) → IsEnding (rule p s lemmas S l) → IsTrue (is_honest p m.least_bits s S l) → IsTrue (names_well p l)
-  end-names S f grid (narrow_by (by_range j)) e h = atom-there S j f.marks (yes-below S.marks j (ending-cond (in_yes S j) _ e))
-  end-names S f grid (mark_by (unit_atom j)) e h = atom-there S j f.marks (undecided_below S.marks j (both_true (undecided S j) _ (ending-true _ _ e)).0)
-  end-names S f grid (mark_by (ban_atom j i)) e h = atom-there S j f.marks (undecided_below S.marks j (both_true (undecided S j) _ (ending-true _ _ e)).0)
-  end-names S f grid (end_by (void_by (by_range j))) e h = atom-there S j f.marks (yes-below S.marks j (ending-cond (in_yes S j) _ e))
-  end-names S f grid (narrow_by (by_off_range j)) e h = atom-there S j f.marks (no-below S.marks j (in-no S j (ending-cond (can_push p s S j) _ e)))
-  end-names S f grid (end_by (void_by (by_off_range j))) e h = atom-there S j f.marks (no-below S.marks j (in-no S j (ending-cond (can_push p s S j) _ e)))
-  end-names S f grid (narrow_by (by_combination ms)) e h = combined-there S ms (ending-cond (can_combine p s S ms) _ e)
-  end-names S f grid (end_by (void_by (by_combination ms))) e h = combined-there S ms (ending-cond (can_combine p s S ms) _ e)
+  end-names S f grid (narrow_by n) e h = (narrowing-names S f.marks n (ending-cond (can_narrow p s S n) _ e)).0
+  end-names S f grid (end_by (void_by n)) e h = (narrowing-names S f.marks n (ending-cond (can_narrow p s S n) _ e)).1
   end-names S f grid (end_by false_form) e h = refl
   end-names S f grid (end_by (by_lemma i)) e h = refl
-  end-names S f grid (branch_by (cut_axis axis c)) e h = le-leb (suc axis) (length p.axes) (omega (arith, axes_length p.axes S.space f.axes, tested-below (strictly_inside c) axis S.space (ending-true _ _ e)))
-  end-names S f grid (branch_by (flip_axis axis)) e h = le-leb (suc axis) (length p.axes) (omega (arith, axes_length p.axes S.space f.axes, tested-below is_undecided axis S.space (ending-true _ _ e)))
-  end-names S f grid (branch_by (case_atom j)) e h = atom-there S j f.marks (undecided_below S.marks j (ending-true (undecided S j) _ e))
+  end-names S f grid (mark_by x) e h = (marking-names S f.marks x (ending-true _ _ e)).0
+  end-names S f grid (branch_by b) e h = branching-names S f b (ending-true _ _ e)
   end-names S f grid (stay_by open_state) e h = refl
   end-names S f grid (stay_by (stuck_atom j)) e h =
       let a = both_true (not_shown p s S && settled p s S && is_small m.least_bits S.space) (none_below p s S j) h in

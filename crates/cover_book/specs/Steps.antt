@@ -1,7 +1,7 @@
 -- The calls on a book: the condition of each, and the one relation between a book, a call, its reply and the book after it.
 use Rattle.std.specs.Prelude.{◌≡◌, ◌≢◌, ℕ, suc, ◌<◌, ◌≤◌, List, [], ◌∷◌, ◌++◌, length, drop, take, Bool, true, false, cond, Option, Some, None, IsSome, IsTrue, Result, MatchResult, slice_get, slice_set}
 use Rattle.cover_model.specs.State.{State}
-use Rattle.cover_model.specs.Rules.{Line, branch_by, cut_axis, flip_axis, case_atom}
+use Rattle.cover_model.specs.Rules.{Line, branch_by}
 use Rattle.cover_model.specs.Fits.{IsShownAt}
 use Rattle.interval_model.specs.Space.{Space}
 use Rattle.cover_model.specs.Space.{IsGridSpace}
@@ -48,9 +48,7 @@ pub record IsFirstUnknown (b : BookModel) (quoted : List LemmaModel) (i : ℕ) :
   pub unknown : slice_get (lemma_states_in b) lemma.id ≢ Some lemma.state
 
 abbrev pub is_branch : Line → Bool
-is_branch (branch_by (cut_axis axis c)) = true
-is_branch (branch_by (flip_axis axis)) = true
-is_branch (branch_by (case_atom j)) = true
+is_branch (branch_by b) = true
 is_branch l = false
 
 abbrev pub ends_in_branch : Option Line → Bool

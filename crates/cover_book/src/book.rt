@@ -151,10 +151,7 @@ fn any_stuck(nodes: &[Node]) -> bool
 fn parts(end: &Option<End>) -> bool
     ensures { result ≡ ends_in_branch (end_of end.now) }
 {
-    matches!(
-        end,
-        Some(End::Cut(_, _)) | Some(End::Flip(_)) | Some(End::Case(_))
-    )
+    matches!(end, Some(End::Part(_)))
 }
 
 // The state of a live node, as it is kept.

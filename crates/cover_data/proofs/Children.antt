@@ -7,8 +7,8 @@ use Rattle.dyadic.proofs.Equal.{both_true, total}
 use Rattle.interval_model.specs.Space.{Domain, real_domain, bool_domain, Space, strictly_inside, lower_part, upper_part, is_undecided, keep, test_axis, changed}
 use Rattle.poly_graph.specs.Problem.{Declared, real_between, any_bool, Axis, Problem}
 use Rattle.poly_graph.specs.Marks.{Mark, marked_yes, marked_no}
-use Rattle.cover_model.specs.State.{State, Loosenings, undecided, with_mark, with_yes, with_no}
-use Rattle.cover_model.specs.Rules.{Line, with_changed, when, two, rule, narrow_by, by_range, by_off_range, by_combination, end_by, void_by, false_form, by_lemma, mark_by, unit_atom, ban_atom, branch_by, cut_axis, flip_axis, case_atom, stay_by, open_state, stuck_atom}
+use Rattle.cover_model.specs.State.{State, Loosenings, with_mark}
+use Rattle.cover_model.specs.Rules.{Line, narrow_by, end_by, mark_by, branch_by, stay_by, Branching, cut_axis, flip_axis, case_atom, can_branch, first_child, second_child, with_changed, when, two, rule}
 use Rattle.cover_model.specs.Fits.{FitsAxis, FitsAxes, FitsProblem}
 use Rattle.cover_data.specs.Runs.{CanPart, children, IsEnding}
 
@@ -47,34 +47,21 @@ module _ (p : Problem) (S : State) (fits : FitsProblem p S) where
   pub marked_fits : (j : ℕ) (m : Mark) → FitsProblem p (with_mark S j m)
   marked_fits j m = record { axes = fits.axes; marks = length-set S.marks j m ∙ fits.marks }
 
-first-of : {X : Type 0} → X → Option (X × X) → X
-first-of d None = d
-first-of d (Some x) = x.0
-
-second-of : {X : Type 0} → X → Option (X × X) → X
-second-of d None = d
-second-of d (Some x) = x.1
-
 abbrev Fit : Problem → Option (State × State) → Type 0
 Fit p None = Unit {0}
 Fit p (Some x) = FitsProblem p x.0 × FitsProblem p x.1
 
+branch-fits : (p : Problem) (S : State) → FitsProblem p S → (b : Branching) → IsTrue (can_branch S b) → FitsProblem p (first_child S b) × FitsProblem p (second_child S b)
+branch-fits p S f (cut_axis axis c) h = (changed_state_fits p S f (lower_part c) (strictly_inside c) (low-fits c) axis h, changed_state_fits p S f (upper_part c) (strictly_inside c) (high-fits c) axis h)
+branch-fits p S f (flip_axis axis) h = (changed_state_fits p S f (keep false) is_undecided (keep-fits false) axis h, changed_state_fits p S f (keep true) is_undecided (keep-fits true) axis h)
+branch-fits p S f (case_atom j) h = (marked_fits p S f j marked_yes, marked_fits p S f j marked_no)
+
 children-fit-both : (p : Problem) (S : State) → FitsProblem p S → (l : Line) → CanPart l S → Fit p (children l S)
-children-fit-both p S f (branch_by (cut_axis axis c)) h = (changed_state_fits p S f (lower_part c) (strictly_inside c) (low-fits c) axis h, changed_state_fits p S f (upper_part c) (strictly_inside c) (high-fits c) axis h)
-children-fit-both p S f (branch_by (flip_axis axis)) h = (changed_state_fits p S f (keep false) is_undecided (keep-fits false) axis h, changed_state_fits p S f (keep true) is_undecided (keep-fits true) axis h)
-children-fit-both p S f (branch_by (case_atom j)) h = (marked_fits p S f j marked_yes, marked_fits p S f j marked_no)
-children-fit-both p S f (narrow_by (by_range j)) h = tt
-children-fit-both p S f (mark_by (unit_atom j)) h = tt
-children-fit-both p S f (mark_by (ban_atom j i)) h = tt
-children-fit-both p S f (end_by (void_by (by_range j))) h = tt
-children-fit-both p S f (narrow_by (by_off_range j)) h = tt
-children-fit-both p S f (end_by (void_by (by_off_range j))) h = tt
-children-fit-both p S f (narrow_by (by_combination ms)) h = tt
-children-fit-both p S f (end_by (void_by (by_combination ms))) h = tt
-children-fit-both p S f (end_by false_form) h = tt
-children-fit-both p S f (end_by (by_lemma i)) h = tt
-children-fit-both p S f (stay_by open_state) h = tt
-children-fit-both p S f (stay_by (stuck_atom j)) h = tt
+children-fit-both p S f (branch_by b) h = branch-fits p S f b h
+children-fit-both p S f (narrow_by n) h = tt
+children-fit-both p S f (end_by e) h = tt
+children-fit-both p S f (mark_by m) h = tt
+children-fit-both p S f (stay_by t) h = tt
 
 pub children_fit : (p : Problem) (S : State) → FitsProblem p S → (l : Line) → CanPart l S → (a b : State) → children l S ≡ Some (a, b) → FitsProblem p a × FitsProblem p b
 children_fit p S f l h a b e = subst (Fit p) e (children-fit-both p S f l h)
@@ -85,18 +72,8 @@ ends-if false x y h = absurd (true≢false (sym h))
 
 -- where a branch can stand, its rule holds
 pub can_end : (p : Problem) (s : Loosenings) (lemmas : List State) (S : State) (l : Line) → CanPart l S → (x : State × State) → children l S ≡ Some x → IsEnding (rule p s lemmas S l)
-can_end p s lemmas S (branch_by (cut_axis axis c)) h x e = ends-if (test_axis (strictly_inside c) axis S.space) (with_changed S (lower_part c) axis) (with_changed S (upper_part c) axis) h
-can_end p s lemmas S (branch_by (flip_axis axis)) h x e = ends-if (test_axis is_undecided axis S.space) (with_changed S (keep false) axis) (with_changed S (keep true) axis) h
-can_end p s lemmas S (branch_by (case_atom j)) h x e = ends-if (undecided S j) (with_yes S j) (with_no S j) h
-can_end p s lemmas S (narrow_by (by_range j)) h x e = cc
-can_end p s lemmas S (mark_by (unit_atom j)) h x e = cc
-can_end p s lemmas S (mark_by (ban_atom j i)) h x e = cc
-can_end p s lemmas S (end_by (void_by (by_range j))) h x e = cc
-can_end p s lemmas S (narrow_by (by_off_range j)) h x e = cc
-can_end p s lemmas S (end_by (void_by (by_off_range j))) h x e = cc
-can_end p s lemmas S (narrow_by (by_combination ms)) h x e = cc
-can_end p s lemmas S (end_by (void_by (by_combination ms))) h x e = cc
-can_end p s lemmas S (end_by false_form) h x e = cc
-can_end p s lemmas S (end_by (by_lemma i)) h x e = cc
-can_end p s lemmas S (stay_by open_state) h x e = cc
-can_end p s lemmas S (stay_by (stuck_atom j)) h x e = cc
+can_end p s lemmas S (branch_by b) h x e = ends-if (can_branch S b) (first_child S b) (second_child S b) h
+can_end p s lemmas S (narrow_by n) h x e = cc
+can_end p s lemmas S (end_by y) h x e = cc
+can_end p s lemmas S (mark_by m) h x e = cc
+can_end p s lemmas S (stay_by t) h x e = cc

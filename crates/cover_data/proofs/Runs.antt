@@ -1,11 +1,11 @@
 -- Steps one after another, what an end leaves, and what lies within what.
 use Rattle.std.proofs.Common.{◌≡◌, ℕ, List, [], ◌∷◌, ◌++◌, Bool, true, false, not, cond, IsTrue, Option, Some, None, refl, sym, ap, subst, true≢false}
 use Rattle.dyadic.proofs.Equal.{both_true, both_pass}
-use Rattle.interval_model.specs.Space.{Space, space_within, strictly_inside, lower_part, upper_part, is_undecided, keep, test_axis}
+use Rattle.interval_model.specs.Space.{Space, space_within}
 use Rattle.poly_graph.specs.Problem.{Problem}
-use Rattle.cover_model.specs.State.{State, Loosenings, in_yes, undecided, with_yes, with_no, may, covers}
+use Rattle.cover_model.specs.State.{State, Loosenings, may, covers}
 use Rattle.poly_graph.specs.Marks.{marks_within}
-use Rattle.cover_model.specs.Rules.{Line, stuck, Left, closed, one, two, stays, narrowing, narrowing_off, combining, can_push, can_combine, lemma_covers, with_changed, when, voided, is_stuck_atom, rule, narrow_by, by_range, by_off_range, by_combination, end_by, void_by, false_form, by_lemma, mark_by, unit_atom, ban_atom, branch_by, cut_axis, flip_axis, case_atom, stay_by, open_state, stuck_atom}
+use Rattle.cover_model.specs.Rules.{Line, narrow_by, end_by, mark_by, branch_by, stay_by, Ending, void_by, false_form, by_lemma, stuck, Left, closed, one, two, stays, can_narrow, narrowed_to, can_branch, first_child, second_child, lemma_covers, when, voided, ending, is_stuck_atom, rule}
 use Rattle.cover_model.specs.Derivation.{Tree, Lawful, at_step}
 use Rattle.cover_model.proofs.Within.{space_reflexive, space_through}
 use Rattle.poly_graph.proofs.Marks.{marks_reflexive, marks_through}
@@ -49,47 +49,27 @@ both-of None = stays
 both-of (Some (a, b)) = two a b
 
 module _ (p : Problem) (s : Loosenings) (lemmas : List State) (S : State) where
+  ending-closes : (e : Ending) → IsEnding (ending p s lemmas S e) → ending p s lemmas S e ≡ Some closed
+  ending-closes (void_by n) h = ends-void (can_narrow p s S n) (narrowed_to p s S n) h
+  ending-closes false_form h = ends-when (not (may p s S)) closed h
+  ending-closes (by_lemma i) h = ends-when (lemma_covers lemmas i S) closed h
+
   -- an end that closes leaves nothing
   pub closing_leaves : (l : Line) → IsTrue (is_closing l) → IsEnding (rule p s lemmas S l) → rule p s lemmas S l ≡ Some closed
-  closing_leaves (end_by (void_by (by_range j))) c h = ends-void (in_yes S j) (narrowing p s S j) h
-  closing_leaves (end_by (void_by (by_off_range j))) c h = ends-void (can_push p s S j) (narrowing_off p s S j) h
-  closing_leaves (end_by (void_by (by_combination ms))) c h = ends-void (can_combine p s S ms) (combining p s S ms) h
-  closing_leaves (end_by false_form) c h = ends-when (not (may p s S)) closed h
-  closing_leaves (end_by (by_lemma i)) c h = ends-when (lemma_covers lemmas i S) closed h
-  closing_leaves (narrow_by (by_range j)) c h = absurd (true≢false (sym c))
-  closing_leaves (narrow_by (by_off_range j)) c h = absurd (true≢false (sym c))
-  closing_leaves (narrow_by (by_combination ms)) c h = absurd (true≢false (sym c))
-  closing_leaves (mark_by (unit_atom j)) c h = absurd (true≢false (sym c))
-  closing_leaves (mark_by (ban_atom j i)) c h = absurd (true≢false (sym c))
-  closing_leaves (branch_by (cut_axis axis x)) c h = absurd (true≢false (sym c))
-  closing_leaves (branch_by (flip_axis axis)) c h = absurd (true≢false (sym c))
-  closing_leaves (branch_by (case_atom j)) c h = absurd (true≢false (sym c))
-  closing_leaves (stay_by open_state) c h = absurd (true≢false (sym c))
-  closing_leaves (stay_by (stuck_atom j)) c h = absurd (true≢false (sym c))
+  closing_leaves (end_by e) c h = ending-closes e h
+  closing_leaves (narrow_by n) c h = absurd (true≢false (sym c))
+  closing_leaves (mark_by m) c h = absurd (true≢false (sym c))
+  closing_leaves (branch_by b) c h = absurd (true≢false (sym c))
+  closing_leaves (stay_by t) c h = absurd (true≢false (sym c))
 
   pub stuck_stays : (j : ℕ) → IsEnding (rule p s lemmas S (stuck j)) → rule p s lemmas S (stuck j) ≡ Some stays
   stuck_stays j h = ends-when (is_stuck_atom p s S j) stays h
 
   -- a branch leaves its two states
-  pub branch_leaves : (l : Line) (a b : State) → children l S ≡ Some (a, b) → IsEnding (rule p s lemmas S l) → rule p s lemmas S l ≡ Some (two a b)
-  branch_leaves (branch_by (cut_axis axis c)) a b e h =
-      subst (λ (x : Left). when (test_axis (strictly_inside c) axis S.space) (two (with_changed S (lower_part c) axis) (with_changed S (upper_part c) axis)) ≡ Some x) (ap both-of e)
-      (ends-when (test_axis (strictly_inside c) axis S.space) (two (with_changed S (lower_part c) axis) (with_changed S (upper_part c) axis)) h)
-  branch_leaves (branch_by (flip_axis axis)) a b e h =
-      subst (λ (x : Left). when (test_axis is_undecided axis S.space) (two (with_changed S (keep false) axis) (with_changed S (keep true) axis)) ≡ Some x) (ap both-of e)
-      (ends-when (test_axis is_undecided axis S.space) (two (with_changed S (keep false) axis) (with_changed S (keep true) axis)) h)
-  branch_leaves (branch_by (case_atom j)) a b e h =
-      subst (λ (x : Left). when (undecided S j) (two (with_yes S j) (with_no S j)) ≡ Some x) (ap both-of e)
-      (ends-when (undecided S j) (two (with_yes S j) (with_no S j)) h)
-  branch_leaves (narrow_by (by_range j)) a b e h = cc
-  branch_leaves (mark_by (unit_atom j)) a b e h = cc
-  branch_leaves (mark_by (ban_atom j i)) a b e h = cc
-  branch_leaves (end_by (void_by (by_range j))) a b e h = cc
-  branch_leaves (narrow_by (by_off_range j)) a b e h = cc
-  branch_leaves (end_by (void_by (by_off_range j))) a b e h = cc
-  branch_leaves (narrow_by (by_combination ms)) a b e h = cc
-  branch_leaves (end_by (void_by (by_combination ms))) a b e h = cc
-  branch_leaves (end_by false_form) a b e h = cc
-  branch_leaves (end_by (by_lemma i)) a b e h = cc
-  branch_leaves (stay_by open_state) a b e h = cc
-  branch_leaves (stay_by (stuck_atom j)) a b e h = cc
+  pub branch_leaves : (l : Line) (T U : State) → children l S ≡ Some (T, U) → IsEnding (rule p s lemmas S l) → rule p s lemmas S l ≡ Some (two T U)
+  branch_leaves (branch_by b) T U e h =
+      subst (λ (x : Left). when (can_branch S b) (two (first_child S b) (second_child S b)) ≡ Some x) (ap both-of e) (ends-when (can_branch S b) (two (first_child S b) (second_child S b)) h)
+  branch_leaves (narrow_by n) T U e h = cc
+  branch_leaves (end_by x) T U e h = cc
+  branch_leaves (mark_by m) T U e h = cc
+  branch_leaves (stay_by t) T U e h = cc

@@ -2,9 +2,8 @@
 use Rattle.std.specs.Prelude.{◌≡◌, List, [], ◌∷◌, All, Option, Some, None, Bool, true, false, IsTrue, IfSome, slice_get}
 use Rattle.dyadic.specs.Point.{Coordinate}
 use Rattle.poly_graph.specs.Problem.{Problem}
-use Rattle.cover_model.specs.State.{State, Loosenings, IsPointOf, MeetsForm, IsLemma, covers, undecided, with_yes, with_no}
-use Rattle.cover_model.specs.Rules.{Line, cut, flip, case, Left, one, rule, with_changed, by_range, by_off_range, by_combination, end_by, void_by, false_form, by_lemma, branch_by, cut_axis, flip_axis, case_atom}
-use Rattle.interval_model.specs.Space.{lower_part, upper_part, keep, strictly_inside, is_undecided, test_axis}
+use Rattle.cover_model.specs.State.{State, Loosenings, IsPointOf, MeetsForm, IsLemma, covers}
+use Rattle.cover_model.specs.Rules.{Line, end_by, branch_by, Left, one, rule, can_branch, first_child, second_child}
 use Rattle.cover_model.specs.Derivation.{Tree, then}
 use Rattle.cover_model.specs.Honest.{is_honest}
 use Rattle.cover_model.specs.Fits.{FitsProblem}
@@ -32,11 +31,7 @@ AreKept lemmas quoted = All (λ (l : LemmaModel). slice_get lemmas l.id ≡ Some
 
 -- the line closes a state
 abbrev pub is_closing : Line → Bool
-is_closing (end_by (void_by (by_range j))) = true
-is_closing (end_by (void_by (by_off_range j))) = true
-is_closing (end_by (void_by (by_combination ms))) = true
-is_closing (end_by false_form) = true
-is_closing (end_by (by_lemma i)) = true
+is_closing (end_by e) = true
 is_closing l = false
 
 -- there is an end, and it closes the state
@@ -46,9 +41,7 @@ closes (Some l) = is_closing l
 
 -- the two states that a branch leaves of a state
 abbrev pub children : Line → State → Option (State × State)
-children (branch_by (cut_axis axis c)) S = Some (with_changed S (lower_part c) axis, with_changed S (upper_part c) axis)
-children (branch_by (flip_axis axis)) S = Some (with_changed S (keep false) axis, with_changed S (keep true) axis)
-children (branch_by (case_atom j)) S = Some (with_yes S j, with_no S j)
+children (branch_by b) S = Some (first_child S b, second_child S b)
 children l S = None
 
 -- those that a run leaves which ended in a branch
@@ -61,9 +54,7 @@ kids_of k = kids_by k.end k.reached
 
 -- a branch stands where it can: a cut strictly inside a Real axis, a flip of an undecided Bool, a case of an undecided atom
 abbrev pub CanPart : Line → State → Type 0
-CanPart (branch_by (cut_axis axis c)) S = IsTrue (test_axis (strictly_inside c) axis S.space)
-CanPart (branch_by (flip_axis axis)) S = IsTrue (test_axis is_undecided axis S.space)
-CanPart (branch_by (case_atom j)) S = IsTrue (undecided S j)
+CanPart (branch_by b) S = IsTrue (can_branch S b)
 CanPart l S = Unit {0}
 
 -- what an end leaves: nothing, two states, or the state itself

@@ -50,14 +50,8 @@ impl KeptPatch {
         ensures { IsTrue result ↔ IsClosed (kept_of self.now) }
     {
         match &self.end {
-            Some(End::Void(_)) => true,
-            Some(End::VoidNo(_)) => true,
-            Some(End::VoidCombine(_)) => true,
-            Some(End::False) => true,
-            Some(End::By(_)) => true,
-            Some(End::Cut(_, _)) => false,
-            Some(End::Flip(_)) => false,
-            Some(End::Case(_)) => false,
+            Some(End::Close(_)) => true,
+            Some(End::Part(_)) => false,
             Some(End::Stuck(_)) => false,
             None => false,
         }

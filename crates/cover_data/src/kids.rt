@@ -3,13 +3,15 @@ ghost use Rattle.std.specs.Prelude.{◌≡◌, IfOk, IfSome, IfNone, IsTrue, tru
 ghost use Rattle.interval_model.specs.Space.{test_axis, strictly_inside, is_undecided, lower_part, upper_part, keep};
 ghost use Rattle.dyadic.specs.Views.{dyadic_of};
 ghost use Rattle.cover_model.specs.State.{undecided, with_yes, with_no};
-ghost use Rattle.cover_model.specs.Rules.{with_changed};
+ghost use Rattle.cover_line.specs.Views.{branching_of};
+ghost use Rattle.cover_model.specs.Rules.{can_branch, first_child, second_child, with_changed};
 ghost use Rattle.cover_data.specs.Runs.{CanPart, kids_of};
 ghost use Rattle.cover_data.specs.Views.{kept_of};
 
 use crate::kept::KeptPatch;
 use crate::state::State;
 use crate::step::End;
+use cover_line::Branching;
 use dyadic::Dy;
 use poly_graph::Mark;
 use std::alloc::{AllocError, Global};
@@ -55,6 +57,19 @@ fn cases(alloc: Global, state: &State, j: u32) -> Result<(State, State), AllocEr
     Ok((yes, no))
 }
 
+// The two states that a branch leaves.
+fn parts(alloc: Global, state: &State, branching: Branching) -> Result<(State, State), AllocError>
+    requires { IsTrue (can_branch state.now (branching_of branching)) }
+    ensures first { IfOk result (λ p. p.0 ≡ first_child state.now (branching_of branching)) }
+    ensures second { IfOk result (λ p. p.1 ≡ second_child state.now (branching_of branching)) }
+{
+    match branching {
+        Branching::Cut(axis, at) => cut(alloc, state, axis, at),
+        Branching::Flip(axis) => flipped(alloc, state, axis),
+        Branching::Case(j) => cases(alloc, state, j),
+    }
+}
+
 impl KeptPatch {
     /// The two states that its branch leaves, in memory of their own; none where it did not end in a branch. A
     /// patch's branch always stands where it can.
@@ -65,14 +80,8 @@ impl KeptPatch {
             IfSome o (λ p. kids_of (kept_of self.now) ≡ Some (p.0, p.1))) }
     {
         match &self.end {
-            Some(End::Cut(axis, at)) => Ok(Some(cut(alloc, &self.reached, *axis, *at)?)),
-            Some(End::Flip(axis)) => Ok(Some(flipped(alloc, &self.reached, *axis)?)),
-            Some(End::Case(j)) => Ok(Some(cases(alloc, &self.reached, *j)?)),
-            Some(End::Void(_)) => Ok(None),
-            Some(End::VoidNo(_)) => Ok(None),
-            Some(End::VoidCombine(_)) => Ok(None),
-            Some(End::False) => Ok(None),
-            Some(End::By(_)) => Ok(None),
+            Some(End::Part(branching)) => Ok(Some(parts(alloc, &self.reached, *branching)?)),
+            Some(End::Close(_)) => Ok(None),
             Some(End::Stuck(_)) => Ok(None),
             None => Ok(None),
         }

@@ -25,5 +25,5 @@ pub use lemma::Lemma;
 pub use margins::{Margins, Options};
 pub use point::Point;
 pub use state::State;
-pub use step::{End, Step};
+pub use step::{Closing, End, Narrowing, Step};
 pub use stored::StoredState;

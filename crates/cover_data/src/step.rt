@@ -1,19 +1,44 @@
-// The lines of a patch: its steps and its end.
+// The lines of a patch by shape: its steps and its end.
 ghost use Rattle.std.specs.Prelude.{◌≡◌, IfOk};
-ghost use Rattle.cover_data.specs.Views.{step_line, end_line};
+ghost use Rattle.cover_data.specs.Views.{closing_of, end_line, narrowing_of, step_line};
 
 use crate::combination::Combination;
-use dyadic::Dy;
+use cover_line::{Branching, Marking};
 use std::alloc::{AllocError, Global};
 
-/// A step, which leaves one state. Numbers are those of atoms, and the second of `Ban` that of a lemma.
+/// What makes the box smaller. Numbers are those of atoms.
+#[derive(Drop, PartialEq, Eq, Debug)]
+pub enum Narrowing {
+    /// The range of an atom that holds.
+    Pull(u32),
+    /// The off-range of an atom that fails.
+    Push(u32),
+    /// A combination of atoms, each with its multiplier.
+    Combine(Combination),
+}
+
+impl Narrowing {
+    /// The same narrowing in memory of its own.
+    pub fn try_clone(&self, alloc: Global) -> Result<Narrowing, AllocError>
+        ensures { IfOk result (λ n. narrowing_of n ≡ narrowing_of self.now) }
+    {
+        match self {
+            Narrowing::Pull(j) => Ok(Narrowing::Pull(*j)),
+            Narrowing::Push(j) => Ok(Narrowing::Push(*j)),
+            Narrowing::Combine(combination) => {
+                Ok(Narrowing::Combine(combination.try_clone(alloc)?))
+            }
+        }
+    }
+}
+
+/// A step, which leaves one state.
 #[derive(Drop, PartialEq, Eq, Debug)]
 pub enum Step {
-    Pull(u32),
-    Unit(u32),
-    Ban(u32, u32),
-    Push(u32),
-    Combine(Combination),
+    /// With a smaller box.
+    Narrow(Narrowing),
+    /// With a mark more.
+    Mark(Marking),
 }
 
 impl Step {
@@ -22,27 +47,42 @@ impl Step {
         ensures { IfOk result (λ s. step_line s ≡ step_line self.now) }
     {
         match self {
-            Step::Pull(j) => Ok(Step::Pull(*j)),
-            Step::Unit(j) => Ok(Step::Unit(*j)),
-            Step::Ban(j, i) => Ok(Step::Ban(*j, *i)),
-            Step::Push(j) => Ok(Step::Push(*j)),
-            Step::Combine(combination) => Ok(Step::Combine(combination.try_clone(alloc)?)),
+            Step::Narrow(narrowing) => Ok(Step::Narrow(narrowing.try_clone(alloc)?)),
+            Step::Mark(marking) => Ok(Step::Mark(*marking)),
         }
     }
 }
 
-/// An end: it closes the state, splits it in two, or leaves it as a stuck one. Numbers are those of atoms, of
-/// `By` that of a lemma, of `Cut` and `Flip` that of an axis.
+/// What closes the state.
+#[derive(Drop, PartialEq, Eq, Debug)]
+pub enum Closing {
+    /// The narrowing leaves nothing.
+    Void(Narrowing),
+    /// The form may not hold.
+    False,
+    /// The lemma of this number covers the state.
+    By(u32),
+}
+
+impl Closing {
+    /// The same in memory of its own.
+    pub fn try_clone(&self, alloc: Global) -> Result<Closing, AllocError>
+        ensures { IfOk result (λ c. closing_of c ≡ closing_of self.now) }
+    {
+        match self {
+            Closing::Void(narrowing) => Ok(Closing::Void(narrowing.try_clone(alloc)?)),
+            Closing::False => Ok(Closing::False),
+            Closing::By(i) => Ok(Closing::By(*i)),
+        }
+    }
+}
+
+/// An end: it closes the state, parts it in two, or leaves it as a stuck one.
 #[derive(Drop, PartialEq, Eq, Debug)]
 pub enum End {
-    Void(u32),
-    VoidNo(u32),
-    VoidCombine(Combination),
-    False,
-    By(u32),
-    Cut(u32, Dy),
-    Flip(u32),
-    Case(u32),
+    Close(Closing),
+    Part(Branching),
+    /// With the atom that is not decided.
     Stuck(u32),
 }
 
@@ -52,14 +92,8 @@ impl End {
         ensures { IfOk result (λ e. end_line e ≡ end_line self.now) }
     {
         match self {
-            End::Void(j) => Ok(End::Void(*j)),
-            End::VoidNo(j) => Ok(End::VoidNo(*j)),
-            End::VoidCombine(combination) => Ok(End::VoidCombine(combination.try_clone(alloc)?)),
-            End::False => Ok(End::False),
-            End::By(i) => Ok(End::By(*i)),
-            End::Cut(axis, at) => Ok(End::Cut(*axis, *at)),
-            End::Flip(axis) => Ok(End::Flip(*axis)),
-            End::Case(j) => Ok(End::Case(*j)),
+            End::Close(closing) => Ok(End::Close(closing.try_clone(alloc)?)),
+            End::Part(branching) => Ok(End::Part(*branching)),
             End::Stuck(j) => Ok(End::Stuck(*j)),
         }
     }

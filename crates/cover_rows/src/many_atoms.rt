@@ -1,7 +1,7 @@
 // How many atoms may be combined.
 use crate::patches::{NOT_COMBINABLE, book_of, led, state_of};
 use cover_book::Book;
-use cover_rule::Patch;
+use cover_rule::{Narrower, Patch};
 use dyadic::{Dy, pow2};
 use std::alloc::{AllocError, Global};
 
@@ -33,8 +33,8 @@ const MARKED: [&str; 3] = [
 fn refuses(alloc: Global, patch: &mut Patch, count: u32, expected: bool) -> bool {
     match first_atoms(alloc, count) {
         Ok(pairs) => {
-            (patch.combine(&pairs) == NOT_COMBINABLE) == expected
-                && (patch.void_combine(&pairs) == NOT_COMBINABLE) == expected
+            (patch.narrow(Narrower::Combine(&pairs)) == NOT_COMBINABLE) == expected
+                && (patch.void(Narrower::Combine(&pairs)) == NOT_COMBINABLE) == expected
         }
         Err(_) => false,
     }

@@ -5,12 +5,16 @@ ghost use Rattle.cover_model.specs.State.{IsLemma};
 ghost use Rattle.cover_book.specs.Model.{margins_of, problem_in, loosenings_in};
 ghost use Rattle.cover_data.specs.Runs.{CanPart};
 ghost use Rattle.cover_data.specs.Views.{kept_of};
+ghost use Rattle.cover_rule.specs.Narrowers.{NamesAtom};
 
 use crate::made::problem;
 use cert_read::{BoolSet, Line, LineReader};
 use cover_book::Book;
 use cover_line::{Branching, Ending, Marking, Narrowing, Rule, Staying};
-use cover_rule::{End, KeptPatch, Lemma, Options, Patch, PatchRefusal, State, Step};
+use cover_rule::{
+    Closing, End, KeptPatch, Lemma, Narrower, Narrowing as PatchNarrowing, Options, Patch,
+    PatchRefusal, State, Step,
+};
 use ival::{Domain, Range, Space, Truths};
 use poly_graph::{Lits, Mark};
 use sample_problems::{USUAL, lies_within};
@@ -147,18 +151,31 @@ fn is_axis(book: &Book, axis: u32) -> bool
     (axis as usize) < book.problem().axes().len()
 }
 
-// What the patch answers to a line that names an atom; none where the line names none, or one that is not there.
+// What it narrows by; none where the atom that it names is not there.
+fn narrower<'a>(book: &Book, narrowing: &'a Narrowing) -> Option<Narrower<'a>>
+    ensures { IfSome result (λ by. NamesAtom book.now.problem by) }
+{
+    match narrowing {
+        Narrowing::Pull(j) if is_atom(book, *j) => Some(Narrower::Pull(*j)),
+        Narrowing::Push(j) if is_atom(book, *j) => Some(Narrower::Push(*j)),
+        Narrowing::Combine(pairs) => Some(Narrower::Combine(pairs)),
+        _ => None,
+    }
+}
+
+// What the patch answers to a line that narrows its state, or names an atom; none where the atom is not there, and for
+// another line.
 fn answer_at_atom(book: &Book, patch: &mut Patch, line: &Line) -> Option<Answer>
     requires { patch.old.problem ≡ book.now.problem }
     ensures problem { patch.new.problem ≡ patch.old.problem }
     ensures margins { patch.new.margins ≡ patch.old.margins }
 {
     match line {
-        Line::Rule(Rule::Narrow(Narrowing::Pull(j))) if is_atom(book, *j) => Some(patch.pull(*j)),
+        Line::Rule(Rule::Narrow(narrowing)) => Some(patch.narrow(narrower(book, narrowing)?)),
+        Line::Rule(Rule::End(Ending::Void(narrowing))) => {
+            Some(patch.void(narrower(book, narrowing)?))
+        }
         Line::Rule(Rule::Mark(Marking::Unit(j))) if is_atom(book, *j) => Some(patch.unit(*j)),
-        Line::Rule(Rule::End(Ending::Void(Narrowing::Pull(j)))) if is_atom(book, *j) => Some(patch.void(*j)),
-        Line::Rule(Rule::Narrow(Narrowing::Push(j))) if is_atom(book, *j) => Some(patch.push(*j)),
-        Line::Rule(Rule::End(Ending::Void(Narrowing::Push(j)))) if is_atom(book, *j) => Some(patch.void_no(*j)),
         Line::Rule(Rule::Branch(Branching::Case(j))) if is_atom(book, *j) => Some(patch.case(*j)),
         Line::Rule(Rule::Stay(Staying::Stuck(j))) if is_atom(book, *j) => Some(patch.stuck(*j)),
         _ => None,
@@ -175,9 +192,8 @@ fn answer_by(book: &Book, lemma: &Lemma, patch: &mut Patch, line: &Line) -> Opti
     ensures margins { patch.new.margins ≡ patch.old.margins }
 {
     match line {
-        Line::Rule(Rule::Mark(Marking::Ban(j, id))) if *id == lemma.id() && is_atom(book, *j) => Some(patch.ban(
-            *j, lemma,
-        )),
+        Line::Rule(Rule::Mark(Marking::Ban(j, id))) if *id == lemma.id() && is_atom(book, *j) =>
+            Some(patch.ban(*j, lemma)),
         Line::Rule(Rule::End(Ending::By(id))) if *id == lemma.id() => Some(patch.by(lemma)),
         _ => None,
     }
@@ -196,16 +212,15 @@ fn answer(book: &Book, lemma: Option<&Lemma>, patch: &mut Patch, line: &Line) ->
     match line {
         Line::Rule(Rule::End(Ending::False)) => Some(patch.make_false()),
         Line::Rule(Rule::Branch(Branching::Cut(_, _))) => Some(patch.cut()),
-        Line::Rule(Rule::Branch(Branching::Flip(axis))) if is_axis(book, *axis) => Some(patch.flip(*axis)),
-        Line::Rule(Rule::Narrow(Narrowing::Combine(pairs))) => Some(patch.combine(
+        Line::Rule(Rule::Branch(Branching::Flip(axis))) if is_axis(book, *axis) => Some(patch.flip(
+            *axis,
+        )),
+        Line::Rule(Rule::Narrow(Narrowing::Combine(pairs))) => Some(patch.combine(pairs)),
+        Line::Rule(Rule::End(Ending::Void(Narrowing::Combine(pairs)))) => Some(patch.void_combine(
             pairs,
         )),
-        Line::Rule(Rule::End(Ending::Void(Narrowing::Combine(pairs)))) => Some(
-            patch.void_combine(pairs),
-        ),
-        Line::Rule(Rule::Mark(Marking::Ban(_, _))) | Line::Rule(Rule::End(Ending::By(_))) => answer_by(
-            book, lemma?, patch, line,
-        ),
+        Line::Rule(Rule::Mark(Marking::Ban(_, _))) | Line::Rule(Rule::End(Ending::By(_))) =>
+            answer_by(book, lemma?, patch, line),
         _ => answer_at_atom(book, patch, line),
     }
 }
@@ -359,15 +374,23 @@ pub(crate) fn leaves(alloc: Global, patch: Patch, lower: &[&str], upper: &[&str]
     are_left(alloc, &kept, lower, upper)
 }
 
+// Whether the line narrows so.
+fn is_narrowing(read: &Narrowing, made: &PatchNarrowing) -> bool {
+    match (read, made) {
+        (Narrowing::Pull(j), PatchNarrowing::Pull(k)) => *j == *k,
+        (Narrowing::Push(j), PatchNarrowing::Push(k)) => *j == *k,
+        (Narrowing::Combine(pairs), PatchNarrowing::Combine(made)) => {
+            pairs.as_slice() == made.pairs.as_slice()
+        }
+        _ => false,
+    }
+}
+
 // Whether the line says this step.
 fn is_step(line: &Line, step: &Step) -> bool {
     match (line, step) {
-        (Line::Rule(Rule::Narrow(Narrowing::Pull(j))), Step::Pull(k)) => *j == *k,
-        (Line::Rule(Rule::Mark(Marking::Unit(j))), Step::Unit(k)) => *j == *k,
-        (Line::Rule(Rule::Mark(Marking::Ban(j, id))), Step::Ban(k, quoted)) => *j == *k && *id == *quoted,
-        (Line::Rule(Rule::Narrow(Narrowing::Push(j))), Step::Push(k)) => *j == *k,
-        (Line::Rule(Rule::Narrow(Narrowing::Combine(pairs))), Step::Combine(made)) =>
-            pairs.as_slice() == made.pairs.as_slice(),
+        (Line::Rule(Rule::Narrow(read)), Step::Narrow(made)) => is_narrowing(read, made),
+        (Line::Rule(Rule::Mark(read)), Step::Mark(made)) => *read == *made,
         _ => false,
     }
 }
@@ -395,14 +418,11 @@ fn are_steps(alloc: Global, lines: &[&str], steps: &[Step]) -> bool {
 // Whether the line says this end, which closes a state.
 fn is_end(line: &Line, end: &End) -> bool {
     match (line, end) {
-        (Line::Rule(Rule::End(Ending::False)), End::False) => true,
-        (Line::Rule(Rule::End(Ending::Void(Narrowing::Pull(j)))), End::Void(k)) => *j == *k,
-        (Line::Rule(Rule::End(Ending::Void(Narrowing::Push(j)))), End::VoidNo(k)) => *j == *k,
-        (Line::Rule(Rule::End(Ending::By(id))), End::By(quoted)) => *id == *quoted,
-        (
-            Line::Rule(Rule::End(Ending::Void(Narrowing::Combine(pairs)))),
-            End::VoidCombine(made),
-        ) => { pairs.as_slice() == made.pairs.as_slice() }
+        (Line::Rule(Rule::End(Ending::Void(read))), End::Close(Closing::Void(made))) => {
+            is_narrowing(read, made)
+        }
+        (Line::Rule(Rule::End(Ending::False)), End::Close(Closing::False)) => true,
+        (Line::Rule(Rule::End(Ending::By(id))), End::Close(Closing::By(quoted))) => *id == *quoted,
         _ => false,
     }
 }

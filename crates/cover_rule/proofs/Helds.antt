@@ -11,11 +11,10 @@ use Rattle.ival.specs.declared.space.Space.{Space as CodeSpace}
 use Rattle.ival.specs.SpaceViews.{domain_of, space_of}
 use Rattle.poly_graph.specs.Problem.{Declared, real_between, any_bool, Axis}
 use Rattle.poly_graph.specs.ProblemViews.{Parts, IsWhole}
-use Rattle.cover_model.specs.State.{State, IsLemma, in_yes, undecided, with_yes, with_no, with_space, may, covers}
+use Rattle.cover_model.specs.State.{State, IsLemma, undecided, with_yes, with_no, with_space, may, covers}
 use Rattle.poly_graph.specs.Marks.{marked_yes, marked_no}
-use Rattle.cover_model.specs.Rules.{Line, pull, unit, ban, void, push, void_no, combine, void_combine, make_false, by, cut, flip, case, stuck, Left, closed, one, stays, when, pulled, voided, covers_by, in_no_one_sided, is_stuck_atom, rule}
+use Rattle.cover_model.specs.Rules.{Line, narrow_by, end_by, Narrowing, void_by, unit, ban, make_false, by, cut, flip, case, stuck, Left, closed, one, stays, when, pulled, voided, covers_by, is_stuck_atom, rule}
 use Rattle.cover_model.specs.Honest.{is_honest, is_small, is_some_space}
-use Rattle.cover_model.specs.Combination.{Multipliers}
 use Rattle.cover_model.specs.Fits.{FitsAxis, FitsAxes}
 use Rattle.cover_data.specs.declared.margins.Margins.{Margins}
 use Rattle.cover_rule.specs.declared.refusal.PatchRefusal.{PatchRefusal}
@@ -23,8 +22,8 @@ use Rattle.cover_rule.specs.declared.refusal.PatchRefusal.TheVariants.{NotYes, N
 use Rattle.cover_data.specs.Models.{LemmaModel}
 use Rattle.cover_rule.specs.Models.{PatchModel}
 use Rattle.cover_data.specs.Runs.{is_closing, CanPart, IsEnding}
-use Rattle.cover_rule.specs.Patch.{problem_in, loosenings_in, now_in, IsRunOf, narrowing_in, narrowing_off_in, combining_in, combined_space, space_or}
-use Rattle.cover_rule.specs.Refusals.{IfLessStep, unless, then_by, if_ended, honestly, pull_refusal, pulled_by, push_refusal, pushed_by, can_combine_in, combine_refusal, combined_by, void_no_refusal, void_combine_refusal, unit_refusal, forced_by, ban_refusal, banned_by, void_refusal, false_refusal, by_refusal, ended_with, covered_by, flip_refusal, case_refusal, stuck_refusal, cut_line, cut_test, cut_refusal, ended_if, cut_by, PatchAnswer, EndAnswer}
+use Rattle.cover_rule.specs.Patch.{problem_in, loosenings_in, now_in, IsRunOf, can_narrow_in, narrowed_in, narrowed_space, space_or}
+use Rattle.cover_rule.specs.Refusals.{IfLessStep, unless, then_by, if_ended, honestly, why_not, narrow_refusal, narrowed_by, unit_refusal, forced_by, ban_refusal, banned_by, void_refusal, VoidEnd, false_refusal, by_refusal, ended_with, covered_by, flip_refusal, case_refusal, stuck_refusal, cut_line, cut_test, cut_refusal, ended_if, cut_by, PatchAnswer, EndAnswer, AnswerIf, takes_memory}
 use Rattle.cover_rule.proofs.RunSteps.{run_steps, run_ends, kept_before, lemmas_and, alone, kept_alone, sound_alone, no_lemmas}
 use Rattle.cover_data.specs.declared.kept.KeptPatch.{KeptPatch}
 use Rattle.cover_rule.specs.declared.workspace.Workspace.{Workspace}
@@ -103,6 +102,10 @@ pub run_ended : (refusal : Option PatchRefusal) (P done Q : PatchModel) (r : Res
 run_ended refusal P done Q (Ok u) a h k = subst IsRunOf (sym a.1) (k a.0)
 run_ended refusal P done Q (Err x) a h k = subst IsRunOf (sym a.1) h
 
+run-if-memory : (b : Bool) (refusal : Option PatchRefusal) (P done Q : PatchModel) (r : Result (Unit {0}) PatchRefusal) → AnswerIf b refusal P done Q r → IsRunOf P → OnOk r (refusal ≡ None → IsRunOf done) → IsRunOf Q
+run-if-memory true refusal P done Q r a h k = run_after refusal P done Q r a h k
+run-if-memory false refusal P done Q r a h k = run_ended refusal P done Q r a h k
+
 pub on_ok : (A B : Type 0) (r : Result (Unit {0}) PatchRefusal) → (A → B) → OnOk r A → OnOk r B
 on_ok A B (Ok u) f h = f h
 on_ok A B (Err x) f h = tt
@@ -148,30 +151,13 @@ when-true true l h = refl
 when-true false l h = absurd (true≢false (sym h))
 
 module _ (P : PatchModel) (whole : IsWhole P.problem) (r : IsRunOf P) where
-  pub run_pulled : (j : ℕ) → FitsAxes (problem_in P).axes (space_or (now_in P).space (narrowing_in P j)) → pull_refusal P j ≡ None → IsRunOf (pulled_by P j)
-  run_pulled j fits e =
-      let a = neither (if_ended P.kept) (then_by (unless (in_yes (now_in P) j) NotYes) (unless (is_some_space (narrowing_in P j)) IsVoid)) e in
-      let b = neither (unless (in_yes (now_in P) j) NotYes) (unless (is_some_space (narrowing_in P j)) IsVoid) a.1 in
-      let t = pulls (in_yes (now_in P) j) (now_in P) (narrowing_in P j) (passed (in_yes (now_in P) j) NotYes b.0) (passed (is_some_space (narrowing_in P j)) IsVoid b.1) in
-      run_steps (problem_in P) whole.problem P.margins P.kept r (not_ended P a.0) (pull j) P.kept.quoted (with_space (now_in P) (space_or (now_in P).space (narrowing_in P j)))
-      (λ lemmas h. (h, t)) r.sound.quoted (record { axes = fits; marks = r.sound.reached.marks }) [] (no_lemmas (problem_in P) (loosenings_in P)) t
-
-  pub run_pushed : (j : ℕ) → FitsAxes (problem_in P).axes (space_or (now_in P).space (narrowing_off_in P j)) → push_refusal P j ≡ None → IsRunOf (pushed_by P j)
-  run_pushed j fits e =
-      let no = in_no_one_sided (problem_in P) (now_in P) j in
-      let a = neither (if_ended P.kept) (then_by (unless no NotNo) (unless (is_some_space (narrowing_off_in P j)) IsVoid)) e in
-      let b = neither (unless no NotNo) (unless (is_some_space (narrowing_off_in P j)) IsVoid) a.1 in
-      let t = pulls no (now_in P) (narrowing_off_in P j) (passed no NotNo b.0) (passed (is_some_space (narrowing_off_in P j)) IsVoid b.1) in
-      run_steps (problem_in P) whole.problem P.margins P.kept r (not_ended P a.0) (push j) P.kept.quoted (with_space (now_in P) (space_or (now_in P).space (narrowing_off_in P j)))
-      (λ lemmas h. (h, t)) r.sound.quoted (record { axes = fits; marks = r.sound.reached.marks }) [] (no_lemmas (problem_in P) (loosenings_in P)) t
-
-  pub run_combined : (ms : Multipliers) → FitsAxes (problem_in P).axes (combined_space P ms) → combine_refusal P ms ≡ None → IsRunOf (combined_by P ms)
-  run_combined ms fits e =
-      let can = can_combine_in P ms in
-      let a = neither (if_ended P.kept) (then_by (unless can NotCombinable) (unless (is_some_space (combining_in P ms)) IsVoid)) e in
-      let b = neither (unless can NotCombinable) (unless (is_some_space (combining_in P ms)) IsVoid) a.1 in
-      let t = pulls can (now_in P) (combining_in P ms) (passed can NotCombinable b.0) (passed (is_some_space (combining_in P ms)) IsVoid b.1) in
-      run_steps (problem_in P) whole.problem P.margins P.kept r (not_ended P a.0) (combine ms) P.kept.quoted (with_space (now_in P) (combined_space P ms))
+  pub run_narrowed : (n : Narrowing) → FitsAxes (problem_in P).axes (narrowed_space P n) → narrow_refusal P n ≡ None → IsRunOf (narrowed_by P n)
+  run_narrowed n fits e =
+      let can = can_narrow_in P n in let some = is_some_space (narrowed_in P n) in
+      let a = neither (if_ended P.kept) (then_by (unless can (why_not n)) (unless some IsVoid)) e in
+      let b = neither (unless can (why_not n)) (unless some IsVoid) a.1 in
+      let t = pulls can (now_in P) (narrowed_in P n) (passed can (why_not n) b.0) (passed some IsVoid b.1) in
+      run_steps (problem_in P) whole.problem P.margins P.kept r (not_ended P a.0) (narrow_by n) P.kept.quoted (with_space (now_in P) (narrowed_space P n))
       (λ lemmas h. (h, t)) r.sound.quoted (record { axes = fits; marks = r.sound.reached.marks }) [] (no_lemmas (problem_in P) (loosenings_in P)) t
 
   pub run_forced : (j : ℕ) → unit_refusal P j ≡ None → IsRunOf (forced_by P j)
@@ -212,26 +198,15 @@ module _ (P : PatchModel) (whole : IsWhole P.problem) (r : IsRunOf P) where
       (λ lemmas q. (q, is-end (rule (problem_in P) (loosenings_in P) lemmas (now_in P) l) closed (t lemmas) tt)) h r.sound.quoted
       (λ x. ([], no_lemmas (problem_in P) (loosenings_in P), t [])) c
 
-  pub run_voided : (j : ℕ) → void_refusal P j ≡ None → IsRunOf (ended_with P (void j))
-  run_voided j e =
-      let u = in_yes (now_in P) j in let v = not (is_some_space (narrowing_in P j)) in
-      let a = neither (if_ended P.kept) (then_by (unless u NotYes) (unless v NotFalse)) e in
-      let b = neither (unless u NotYes) (unless v NotFalse) a.1 in
-      closes-plain (void j) (not_ended P a.0) (λ lemmas. voids u (narrowing_in P j) (passed u NotYes b.0) (passed v NotFalse b.1)) refl tt
+  void-closes : (n : Narrowing) → void_refusal P n ≡ None → IsRunOf (ended_with P (end_by (void_by n)))
+  void-closes n e =
+      let can = can_narrow_in P n in let none = not (is_some_space (narrowed_in P n)) in
+      let a = neither (if_ended P.kept) (then_by (unless can (why_not n)) (unless none NotFalse)) e in
+      let b = neither (unless can (why_not n)) (unless none NotFalse) a.1 in
+      closes-plain (end_by (void_by n)) (not_ended P a.0) (λ lemmas. voids can (narrowed_in P n) (passed can (why_not n) b.0) (passed none NotFalse b.1)) refl tt
 
-  pub run_voided_no : (j : ℕ) → void_no_refusal P j ≡ None → IsRunOf (ended_with P (void_no j))
-  run_voided_no j e =
-      let u = in_no_one_sided (problem_in P) (now_in P) j in let v = not (is_some_space (narrowing_off_in P j)) in
-      let a = neither (if_ended P.kept) (then_by (unless u NotNo) (unless v NotFalse)) e in
-      let b = neither (unless u NotNo) (unless v NotFalse) a.1 in
-      closes-plain (void_no j) (not_ended P a.0) (λ lemmas. voids u (narrowing_off_in P j) (passed u NotNo b.0) (passed v NotFalse b.1)) refl tt
-
-  pub run_void_combined : (ms : Multipliers) → void_combine_refusal P ms ≡ None → IsRunOf (ended_with P (void_combine ms))
-  run_void_combined ms e =
-      let u = can_combine_in P ms in let v = not (is_some_space (combining_in P ms)) in
-      let a = neither (if_ended P.kept) (then_by (unless u NotCombinable) (unless v NotFalse)) e in
-      let b = neither (unless u NotCombinable) (unless v NotFalse) a.1 in
-      closes-plain (void_combine ms) (not_ended P a.0) (λ lemmas. voids u (combining_in P ms) (passed u NotCombinable b.0) (passed v NotFalse b.1)) refl tt
+  pub run_voided : (n : Narrowing) (Q : PatchModel) (x : Result (Unit {0}) PatchRefusal) → VoidEnd P n Q x → IsRunOf Q
+  run_voided n Q x h = run-if-memory (takes_memory n) (void_refusal P n) P (ended_with P (end_by (void_by n))) Q x h r (any_ok (void_refusal P n ≡ None → IsRunOf (ended_with P (end_by (void_by n)))) x (void-closes n))
 
   pub run_made_false : false_refusal P ≡ None → IsRunOf (ended_with P make_false)
   run_made_false e =

@@ -4,18 +4,15 @@ use Rattle.interval_model.specs.Space.{Space, space_within}
 use Rattle.poly_graph.specs.Problem.{IsProblem}
 use Rattle.poly_graph.specs.ProblemViews.{Parts, problem_of}
 use Rattle.cover_model.specs.State.{State}
-use Rattle.cover_model.specs.Views.{multipliers_of}
+use Rattle.cover_model.proofs.Lies.{narrowed_within}
 use Rattle.cover_data.specs.declared.margins.Margins.{Margins}
 use Rattle.cover_data.specs.Margins.{loosenings_of}
 use Rattle.cover_rule.specs.declared.narrower.Narrower.{Narrower}
 use Rattle.cover_rule.specs.declared.narrower.Narrower.TheVariants.{Pull, Push, Combine}
-use Rattle.cover_rule.specs.Narrowers.{CanNarrow, NamesAtom, may_narrow, narrows_to}
-use Rattle.cover_rule.proofs.Narrowings.{narrowing_within, narrowing_off_within, combining_within}
+use Rattle.cover_rule.specs.Narrowers.{CanNarrow, NamesAtom, may_narrow, narrowing_of, narrows_to}
 
 pub narrows_within : (p : Parts) → IsProblem (problem_of p) → (m : Margins) (S : State) (n : Narrower) (narrow : Space) → narrows_to p m S n ≡ Some narrow → IsTrue (space_within narrow S.space)
-narrows_within p g m S (Pull j) narrow e = narrowing_within (problem_of p) g (loosenings_of m) S j narrow e
-narrows_within p g m S (Push j) narrow e = narrowing_off_within (problem_of p) g (loosenings_of m) S j narrow e
-narrows_within p g m S (Combine ms) narrow e = combining_within (problem_of p) (loosenings_of m) S (multipliers_of ms.now) narrow e
+narrows_within p g m S n narrow e = narrowed_within (problem_of p) g (loosenings_of m) S (narrowing_of n) narrow e
 
 pub can_narrow : (p : Parts) (m : Margins) (S : State) (n : Narrower) → NamesAtom p n → may_narrow p m S n ≡ true → CanNarrow p m S n
 can_narrow p m S (Pull j) h e = h

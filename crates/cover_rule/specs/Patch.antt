@@ -1,11 +1,10 @@
 -- Patches: a run with rows of its present state.
-use Rattle.std.specs.Prelude.{◌≡◌, ℕ, List, [], ◌∷◌, ◌++◌, Option, Some, None}
+use Rattle.std.specs.Prelude.{◌≡◌, List, [], ◌∷◌, ◌++◌, Bool, Option, Some, None}
 use Rattle.poly_graph.specs.ProblemViews.{problem_of}
 use Rattle.poly_graph.specs.Problem.{Problem}
 use Rattle.cover_model.specs.State.{State, Loosenings, IsLemma}
 use Rattle.interval_model.specs.Space.{Space}
-use Rattle.cover_model.specs.Combination.{Multipliers}
-use Rattle.cover_model.specs.Rules.{Line, narrowing, narrowing_off, combining}
+use Rattle.cover_model.specs.Rules.{Line, Narrowing, can_narrow, narrowed_to}
 use Rattle.cover_data.specs.Margins.{loosenings_of}
 use Rattle.cover_data.specs.Runs.{IsRun, IsClosed}
 use Rattle.cover_data.specs.Models.{LemmaModel, KeptModel}
@@ -53,22 +52,18 @@ ended_by k l quoted = record { first = k.first; steps = k.steps; quoted = quoted
 abbrev pub with_kept : PatchModel → KeptModel → PatchModel
 with_kept P k = record { problem = P.problem; margins = P.margins; kept = k }
 
--- the space of the patch's present state narrowed by atom j
-abbrev pub narrowing_in : PatchModel → ℕ → Option Space
-narrowing_in P j = narrowing (problem_in P) (loosenings_in P) (now_in P) j
+-- the patch's present state may be narrowed by it
+abbrev pub can_narrow_in : PatchModel → Narrowing → Bool
+can_narrow_in P n = can_narrow (problem_in P) (loosenings_in P) (now_in P) n
+
+-- what it leaves of the space of the patch's present state
+abbrev pub narrowed_in : PatchModel → Narrowing → Option Space
+narrowed_in P n = narrowed_to (problem_in P) (loosenings_in P) (now_in P) n
 
 abbrev pub space_or : Space → Option Space → Space
 space_or space None = space
 space_or space (Some narrow) = narrow
 
--- the same by the off-range of atom j
-abbrev pub narrowing_off_in : PatchModel → ℕ → Option Space
-narrowing_off_in P j = narrowing_off (problem_in P) (loosenings_in P) (now_in P) j
-
--- the same by a combination of atoms
-abbrev pub combining_in : PatchModel → Multipliers → Option Space
-combining_in P ms = combining (problem_in P) (loosenings_in P) (now_in P) ms
-
--- the space that a combination leaves to the patch
-abbrev pub combined_space : PatchModel → Multipliers → Space
-combined_space P ms = space_or (now_in P).space (combining_in P ms)
+-- the space that is left to the patch
+abbrev pub narrowed_space : PatchModel → Narrowing → Space
+narrowed_space P n = space_or (now_in P).space (narrowed_in P n)

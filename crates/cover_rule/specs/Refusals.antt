@@ -3,15 +3,14 @@ use Rattle.std.specs.Prelude.{◌≡◌, ◌≢◌, ◌<◌, ℕ, zero, suc, [],
 use Rattle.dyadic.specs.Fraction.{Fraction, at_most, difference_of}
 use Rattle.dyadic.specs.Rounding.{Dyadic, exact, two_to_minus, mid}
 use Rattle.interval_model.specs.Space.{Domain, real_domain, bool_domain, Space, test_axis, strictly_inside, is_undecided, widest}
-use Rattle.cover_model.specs.Combination.{Multipliers}
-use Rattle.cover_model.specs.State.{in_yes, undecided, with_yes, with_no, with_space, may, covers}
-use Rattle.cover_model.specs.Rules.{Line, pull, unit, ban, void, push, void_no, combine, void_combine, make_false, by, cut, flip, case, stuck, in_no_one_sided, can_combine, is_stuck_atom}
+use Rattle.cover_model.specs.State.{undecided, with_yes, with_no, with_space, may, covers}
+use Rattle.cover_model.specs.Rules.{Line, narrow_by, end_by, Narrowing, by_range, by_off_range, by_combination, void_by, unit, ban, make_false, by, cut, flip, case, stuck, is_stuck_atom}
 use Rattle.cover_model.specs.Honest.{is_honest, is_wide, is_middle_at, is_small, is_some_space}
 use Rattle.cover_rule.specs.declared.refusal.PatchRefusal.{PatchRefusal}
 use Rattle.cover_rule.specs.declared.refusal.PatchRefusal.TheVariants.{NotYes, NotForced, NotCovered, NotFalse, NotInside, NotStuck, NotHonest, Ended, IsVoid, Decided, NotNo, NotCombinable, Memory}
 use Rattle.cover_data.specs.Models.{LemmaModel, KeptModel}
 use Rattle.cover_rule.specs.Models.{PatchModel}
-use Rattle.cover_rule.specs.Patch.{problem_in, loosenings_in, now_in, stepped, ended_by, with_kept, narrowing_in, narrowing_off_in, combining_in, combined_space, space_or}
+use Rattle.cover_rule.specs.Patch.{problem_in, loosenings_in, now_in, stepped, ended_by, with_kept, can_narrow_in, narrowed_in, narrowed_space}
 
 -- ---- refusals in their order
 
@@ -33,27 +32,17 @@ honestly P l = unless (is_honest (problem_in P) P.margins.least_bits (loosenings
 
 -- ---- steps
 
-abbrev pub pull_refusal : PatchModel → ℕ → Option PatchRefusal
-pull_refusal P j = then_by (if_ended P.kept) (then_by (unless (in_yes (now_in P) j) NotYes) (unless (is_some_space (narrowing_in P j)) IsVoid))
+-- why the patch's present state may not be narrowed by it
+abbrev pub why_not : Narrowing → PatchRefusal
+why_not (by_range j) = NotYes
+why_not (by_off_range j) = NotNo
+why_not (by_combination ms) = NotCombinable
 
-abbrev pub pulled_by : PatchModel → ℕ → PatchModel
-pulled_by P j = with_kept P (stepped P.kept (pull j) P.kept.quoted (with_space (now_in P) (space_or (now_in P).space (narrowing_in P j))))
+abbrev pub narrow_refusal : PatchModel → Narrowing → Option PatchRefusal
+narrow_refusal P n = then_by (if_ended P.kept) (then_by (unless (can_narrow_in P n) (why_not n)) (unless (is_some_space (narrowed_in P n)) IsVoid))
 
-abbrev pub push_refusal : PatchModel → ℕ → Option PatchRefusal
-push_refusal P j = then_by (if_ended P.kept) (then_by (unless (in_no_one_sided (problem_in P) (now_in P) j) NotNo) (unless (is_some_space (narrowing_off_in P j)) IsVoid))
-
-abbrev pub pushed_by : PatchModel → ℕ → PatchModel
-pushed_by P j = with_kept P (stepped P.kept (push j) P.kept.quoted (with_space (now_in P) (space_or (now_in P).space (narrowing_off_in P j))))
-
--- these atoms may be combined at the state that the patch has reached
-abbrev pub can_combine_in : PatchModel → Multipliers → Bool
-can_combine_in P ms = can_combine (problem_in P) (loosenings_in P) (now_in P) ms
-
-abbrev pub combine_refusal : PatchModel → Multipliers → Option PatchRefusal
-combine_refusal P ms = then_by (if_ended P.kept) (then_by (unless (can_combine_in P ms) NotCombinable) (unless (is_some_space (combining_in P ms)) IsVoid))
-
-abbrev pub combined_by : PatchModel → Multipliers → PatchModel
-combined_by P ms = with_kept P (stepped P.kept (combine ms) P.kept.quoted (with_space (now_in P) (combined_space P ms)))
+abbrev pub narrowed_by : PatchModel → Narrowing → PatchModel
+narrowed_by P n = with_kept P (stepped P.kept (narrow_by n) P.kept.quoted (with_space (now_in P) (narrowed_space P n)))
 
 abbrev pub unit_refusal : PatchModel → ℕ → Option PatchRefusal
 unit_refusal P j = then_by (if_ended P.kept) (then_by (unless (undecided (now_in P) j) Decided) (unless (not (may (problem_in P) (loosenings_in P) (with_no (now_in P) j))) NotForced))
@@ -72,14 +61,14 @@ banned_by P j L = with_kept P (banned P.kept j L)
 
 -- ---- ends that close
 
-abbrev pub void_refusal : PatchModel → ℕ → Option PatchRefusal
-void_refusal P j = then_by (if_ended P.kept) (then_by (unless (in_yes (now_in P) j) NotYes) (unless (not (is_some_space (narrowing_in P j))) NotFalse))
+abbrev pub void_refusal : PatchModel → Narrowing → Option PatchRefusal
+void_refusal P n = then_by (if_ended P.kept) (then_by (unless (can_narrow_in P n) (why_not n)) (unless (not (is_some_space (narrowed_in P n))) NotFalse))
 
-abbrev pub void_no_refusal : PatchModel → ℕ → Option PatchRefusal
-void_no_refusal P j = then_by (if_ended P.kept) (then_by (unless (in_no_one_sided (problem_in P) (now_in P) j) NotNo) (unless (not (is_some_space (narrowing_off_in P j))) NotFalse))
-
-abbrev pub void_combine_refusal : PatchModel → Multipliers → Option PatchRefusal
-void_combine_refusal P ms = then_by (if_ended P.kept) (then_by (unless (can_combine_in P ms) NotCombinable) (unless (not (is_some_space (combining_in P ms))) NotFalse))
+-- the line takes memory of its own
+abbrev pub takes_memory : Narrowing → Bool
+takes_memory (by_range j) = false
+takes_memory (by_off_range j) = false
+takes_memory (by_combination ms) = true
 
 abbrev pub false_refusal : PatchModel → Option PatchRefusal
 false_refusal P = then_by (if_ended P.kept) (unless (not (may (problem_in P) (loosenings_in P) (now_in P))) NotFalse)
@@ -159,31 +148,24 @@ abbrev pub EndAnswer : {X : Type 0} → Option PatchRefusal → X → X → X �
 EndAnswer refusal old done new (Ok u) = (refusal ≡ None) × (new ≡ done)
 EndAnswer refusal old done new (Err e) = (refusal ≡ Some e) × (new ≡ old)
 
+-- the same of one that takes memory or not
+abbrev pub AnswerIf : {X : Type 0} → Bool → Option PatchRefusal → X → X → X → Result (Unit {0}) PatchRefusal → Type 0
+AnswerIf true refusal old done new r = PatchAnswer refusal old done new r
+AnswerIf false refusal old done new r = EndAnswer refusal old done new r
+
 -- a step that narrows the space to this one, where that is less, and nothing where the space stays
 abbrev pub IfLessStep : Option Space → Option PatchRefusal → PatchModel → PatchModel → PatchModel → Result Bool PatchRefusal → Type 0
 IfLessStep narrow refusal P done Q (Ok true) = (narrow ≢ Some (now_in P).space) × PatchAnswer refusal P done Q (Ok tt)
 IfLessStep narrow refusal P done Q (Ok false) = (narrow ≡ Some (now_in P).space) × PatchAnswer refusal P P Q (Ok tt)
 IfLessStep narrow refusal P done Q (Err e) = PatchAnswer refusal P done Q (Err e)
 
-abbrev pub PullIfLessStep : PatchModel → ℕ → PatchModel → Result Bool PatchRefusal → Type 0
-PullIfLessStep P j Q r = IfLessStep (narrowing_in P j) (pull_refusal P j) P (pulled_by P j) Q r
-
-abbrev pub PushIfLessStep : PatchModel → ℕ → PatchModel → Result Bool PatchRefusal → Type 0
-PushIfLessStep P j Q r = IfLessStep (narrowing_off_in P j) (push_refusal P j) P (pushed_by P j) Q r
-
-abbrev pub CombineIfLessStep : PatchModel → Multipliers → PatchModel → Result Bool PatchRefusal → Type 0
-CombineIfLessStep P ms Q r = IfLessStep (combining_in P ms) (combine_refusal P ms) P (combined_by P ms) Q r
-
 -- ---- the calls on a patch P, each with its answer and the patch Q after it
 
-abbrev pub PullStep : PatchModel → ℕ → PatchModel → Result (Unit {0}) PatchRefusal → Type 0
-PullStep P j Q r = PatchAnswer (pull_refusal P j) P (pulled_by P j) Q r
+abbrev pub NarrowStep : PatchModel → Narrowing → PatchModel → Result (Unit {0}) PatchRefusal → Type 0
+NarrowStep P n Q r = PatchAnswer (narrow_refusal P n) P (narrowed_by P n) Q r
 
-abbrev pub PushStep : PatchModel → ℕ → PatchModel → Result (Unit {0}) PatchRefusal → Type 0
-PushStep P j Q r = PatchAnswer (push_refusal P j) P (pushed_by P j) Q r
-
-abbrev pub CombineStep : PatchModel → Multipliers → PatchModel → Result (Unit {0}) PatchRefusal → Type 0
-CombineStep P ms Q r = PatchAnswer (combine_refusal P ms) P (combined_by P ms) Q r
+abbrev pub NarrowIfLessStep : PatchModel → Narrowing → PatchModel → Result Bool PatchRefusal → Type 0
+NarrowIfLessStep P n Q r = IfLessStep (narrowed_in P n) (narrow_refusal P n) P (narrowed_by P n) Q r
 
 abbrev pub UnitStep : PatchModel → ℕ → PatchModel → Result (Unit {0}) PatchRefusal → Type 0
 UnitStep P j Q r = PatchAnswer (unit_refusal P j) P (forced_by P j) Q r
@@ -191,14 +173,8 @@ UnitStep P j Q r = PatchAnswer (unit_refusal P j) P (forced_by P j) Q r
 abbrev pub BanStep : PatchModel → ℕ → LemmaModel → PatchModel → Result (Unit {0}) PatchRefusal → Type 0
 BanStep P j L Q r = PatchAnswer (ban_refusal P.kept j L) P (banned_by P j L) Q r
 
-abbrev pub VoidEnd : PatchModel → ℕ → PatchModel → Result (Unit {0}) PatchRefusal → Type 0
-VoidEnd P j Q r = EndAnswer (void_refusal P j) P (ended_with P (void j)) Q r
-
-abbrev pub VoidNoEnd : PatchModel → ℕ → PatchModel → Result (Unit {0}) PatchRefusal → Type 0
-VoidNoEnd P j Q r = EndAnswer (void_no_refusal P j) P (ended_with P (void_no j)) Q r
-
-abbrev pub VoidCombineEnd : PatchModel → Multipliers → PatchModel → Result (Unit {0}) PatchRefusal → Type 0
-VoidCombineEnd P ms Q r = PatchAnswer (void_combine_refusal P ms) P (ended_with P (void_combine ms)) Q r
+abbrev pub VoidEnd : PatchModel → Narrowing → PatchModel → Result (Unit {0}) PatchRefusal → Type 0
+VoidEnd P n Q r = AnswerIf (takes_memory n) (void_refusal P n) P (ended_with P (end_by (void_by n))) Q r
 
 abbrev pub FalseEnd : PatchModel → PatchModel → Result (Unit {0}) PatchRefusal → Type 0
 FalseEnd P Q r = EndAnswer (false_refusal P) P (ended_with P make_false) Q r

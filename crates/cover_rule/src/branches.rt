@@ -24,6 +24,7 @@ use crate::stuck::{is_settled, is_stuck_atom, none_stuck_below};
 use crate::truth::is_not_shown;
 use crate::workspace::Workspace;
 use cover_data::{End, KeptPatch, Margins, State};
+use cover_line::Branching;
 use dyadic::mid;
 use form_truth::may_atom;
 use ival::{Domain, Range, Space, Truths};
@@ -108,7 +109,7 @@ pub fn flip(
     if !is_due(problem, margins, &kept.reached, work) {
         return Err(PatchRefusal::NotHonest);
     }
-    end_by(kept, End::Flip(axis));
+    end_by(kept, End::Part(Branching::Flip(axis)));
     Ok(())
 }
 
@@ -192,7 +193,7 @@ pub fn case(
     if !is_case_due(problem, margins, &mut kept.reached, work, j) {
         return Err(PatchRefusal::NotHonest);
     }
-    end_by(kept, End::Case(j));
+    end_by(kept, End::Part(Branching::Case(j)));
     Ok(())
 }
 
@@ -269,6 +270,7 @@ pub fn cut(
     if has_small_side(range, margins.least_bits) {
         return Err(PatchRefusal::NotHonest);
     }
-    end_by(kept, End::Cut(axis as u32, mid(range.low, range.high)));
+    let cut = Branching::Cut(axis as u32, mid(range.low, range.high));
+    end_by(kept, End::Part(cut));
     Ok(())
 }

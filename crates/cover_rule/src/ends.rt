@@ -3,9 +3,9 @@ ghost use Rattle.std.specs.Prelude.{◌≡◌, ◌<◌, [], ◌∷◌, ◌++◌,
 ghost use Rattle.poly_graph.specs.ProblemViews.{problem_of};
 ghost use Rattle.cover_model.specs.Rules.{make_false};
 ghost use Rattle.cover_rule.specs.Serves.{IsReady};
-ghost use Rattle.cover_rule.specs.Narrowers.{EndByNarrower, NamesAtom};
+ghost use Rattle.cover_rule.specs.Narrowers.{NamesAtom, narrowing_of};
 ghost use Rattle.cover_rule.specs.Patch.{ended_by};
-ghost use Rattle.cover_rule.specs.Refusals.{FalseEnd, RunLemmaEnd};
+ghost use Rattle.cover_rule.specs.Refusals.{FalseEnd, RunLemmaEnd, VoidEnd};
 ghost use Rattle.cover_data.specs.Views.{kept_of, end_line};
 ghost use Rattle.cover_rule.specs.Held.{IsHeld, patch_of};
 
@@ -14,7 +14,7 @@ use crate::refusal::PatchRefusal;
 use crate::steps::quote;
 use crate::truth::may_hold;
 use crate::workspace::Workspace;
-use cover_data::{End, KeptPatch, Lemma, Margins};
+use cover_data::{Closing, End, KeptPatch, Lemma, Margins};
 use poly_graph::Problem;
 use std::alloc::Global;
 use std::mem;
@@ -40,7 +40,7 @@ pub fn void(
     requires held { IsHeld problem.now margins.now kept.old work.old }
     requires atom { NamesAtom problem.now by }
     ensures answer { let P = patch_of problem.now margins.now in
-        EndByNarrower (P kept.old) by.entry (P kept.new) result }
+        VoidEnd (P kept.old) (narrowing_of by.entry) (P kept.new) result }
     ensures reached { kept.new.reached ≡ kept.old.reached }
     ensures ready { IsReady problem.now margins.now kept.old.reached.space work.new }
 {
@@ -81,7 +81,7 @@ pub fn make_false(
     if may_hold(problem, margins, &kept.reached, work) {
         return Err(PatchRefusal::NotFalse);
     }
-    end_by(kept, End::False);
+    end_by(kept, End::Close(Closing::False));
     Ok(())
 }
 
@@ -101,6 +101,6 @@ pub fn by(alloc: Global, kept: &mut KeptPatch, lemma: &Lemma) -> Result<(), Patc
     if quote(alloc, kept, lemma).is_err() {
         return Err(PatchRefusal::Memory);
     }
-    end_by(kept, End::By(lemma.id()));
+    end_by(kept, End::Close(Closing::By(lemma.id())));
     Ok(())
 }

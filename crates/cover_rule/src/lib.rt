@@ -22,8 +22,10 @@ mod voiding;
 mod workspace;
 
 pub use cover_data::{
-    ClosedPatch, Combination, End, KeptPatch, Lemma, Margins, Options, Point, State, Step,
+    ClosedPatch, Closing, Combination, End, KeptPatch, Lemma, Margins, Narrowing, Options, Point,
+    State, Step,
 };
+pub use narrower::Narrower;
 pub use patch::Patch;
 pub use point::MiddlePoint;
 pub use refusal::PatchRefusal;

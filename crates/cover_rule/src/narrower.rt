@@ -6,9 +6,12 @@ ghost use Rattle.cover_model.specs.Honest.{is_some_space};
 ghost use Rattle.ival.specs.Narrows.{IsNarrowed};
 ghost use Rattle.ival.specs.SpaceViews.{space_of};
 ghost use Rattle.cover_data.specs.Margins.{AreMargins};
+ghost use Rattle.cover_model.specs.Rules.{end_by, narrow_by, void_by};
+ghost use Rattle.cover_data.specs.Views as views;
 ghost use Rattle.cover_data.specs.Views.{end_line, step_line};
 ghost use Rattle.cover_rule.specs.declared.refusal.PatchRefusal.TheVariants as refusal;
-ghost use Rattle.cover_rule.specs.Narrowers.{NamesAtom, CanNarrow, IsSized, TakesMemory, line_of, may_narrow, narrows_to, void_line_of, why_not};
+ghost use Rattle.cover_rule.specs.Narrowers.{NamesAtom, CanNarrow, IsSized, TakesMemory, may_narrow, narrowing_of, narrows_to};
+ghost use Rattle.cover_rule.specs.Refusals.{why_not};
 ghost use Rattle.cover_rule.specs.Serves.{HasRowsOf, IsReady};
 
 use crate::combining::{can_combine, combine_spare};
@@ -16,7 +19,7 @@ use crate::facts::problem_is_whole;
 use crate::narrowing::{copy_space, is_no_one_sided, narrow_off_spare, narrow_spare};
 use crate::refusal::PatchRefusal;
 use crate::workspace::Workspace;
-use cover_data::{Combination, End, Margins, State, Step};
+use cover_data::{Closing, Combination, End, Margins, Narrowing, State, Step};
 use dyadic::Dy;
 use ival::Narrowed;
 use poly_graph::Problem;
@@ -49,7 +52,7 @@ pub fn may_narrow(problem: &Problem, margins: &Margins, state: &State, by: Narro
 
 /// The refusal where they do not.
 pub fn why_not(by: Narrower) -> PatchRefusal
-    ensures refusal { result ≡ why_not by.entry }
+    ensures refusal { result ≡ why_not (narrowing_of by.entry) }
     ensures other { result ≢ refusal.Memory }
 {
     match by {
@@ -133,31 +136,34 @@ pub fn leaves_nothing(
     }
 }
 
+// The narrowing, in memory of its own.
+fn kept(alloc: Global, by: Narrower) -> Result<Narrowing, AllocError>
+    requires { IsSized by }
+    ensures narrowing { IfOk result (λ n. views.narrowing_of n ≡ narrowing_of by.entry) }
+    ensures memory { OnErr result (TakesMemory by.entry) }
+{
+    match by {
+        Narrower::Pull(j) => Ok(Narrowing::Pull(j)),
+        Narrower::Push(j) => Ok(Narrowing::Push(j)),
+        Narrower::Combine(multipliers) => {
+            Ok(Narrowing::Combine(Combination::new(alloc, multipliers)?))
+        }
+    }
+}
+
 /// The step that narrows so.
 pub fn step_by(alloc: Global, by: Narrower) -> Result<Step, AllocError>
     requires { IsSized by }
-    ensures { IfOk result (λ s. step_line s ≡ line_of by.entry) }
+    ensures { IfOk result (λ s. step_line s ≡ narrow_by (narrowing_of by.entry)) }
 {
-    match by {
-        Narrower::Pull(j) => Ok(Step::Pull(j)),
-        Narrower::Push(j) => Ok(Step::Push(j)),
-        Narrower::Combine(multipliers) => {
-            Ok(Step::Combine(Combination::new(alloc, multipliers)?))
-        }
-    }
+    Ok(Step::Narrow(kept(alloc, by)?))
 }
 
 /// The end that says that nothing is left.
 pub fn end_by(alloc: Global, by: Narrower) -> Result<End, AllocError>
     requires { IsSized by }
-    ensures line { IfOk result (λ e. end_line e ≡ void_line_of by.entry) }
+    ensures line { IfOk result (λ e. end_line e ≡ end_by (void_by (narrowing_of by.entry))) }
     ensures memory { OnErr result (TakesMemory by.entry) }
 {
-    match by {
-        Narrower::Pull(j) => Ok(End::Void(j)),
-        Narrower::Push(j) => Ok(End::VoidNo(j)),
-        Narrower::Combine(multipliers) => {
-            Ok(End::VoidCombine(Combination::new(alloc, multipliers)?))
-        }
-    }
+    Ok(End::Close(Closing::Void(kept(alloc, by)?)))
 }

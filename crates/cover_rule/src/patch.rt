@@ -1,7 +1,6 @@
 // Patches.
 ghost use Rattle.std.specs.Prelude.{◌≡◌, ◌<◌, ◌↔◌, length, IfOk, IsTrue, MatchResult};
 ghost use Rattle.poly_graph.specs.ProblemViews.{problem_of};
-ghost use Rattle.cover_model.specs.Views.{multipliers_of};
 ghost use Rattle.cover_model.specs.Fits.{FitsProblem};
 ghost use Rattle.cover_model.specs.Narrowed.{enclosures};
 ghost use Rattle.ival.specs.RowViews.{rows_of};
@@ -10,7 +9,8 @@ ghost use Rattle.cover_data.specs.Margins.{AreMargins};
 ghost use Rattle.cover_data.specs.Runs.{IsClosed};
 ghost use Rattle.cover_rule.specs.Serves.{IsFilled, IsNumbered, sure_at_middle};
 ghost use Rattle.cover_rule.specs.Patch.{problem_in, run_at, IsRunOf, IsLemmaState, IsClosedRunOf, IsNotClosed};
-ghost use Rattle.cover_rule.specs.Refusals.{PullStep, PullIfLessStep, PushStep, PushIfLessStep, CombineStep, CombineIfLessStep, UnitStep, BanStep, VoidEnd, VoidNoEnd, VoidCombineEnd, FalseEnd, LemmaEnd, CutEnd, FlipEnd, CaseEnd, StuckEnd};
+ghost use Rattle.cover_rule.specs.Narrowers.{NamesAtom, narrowing_of};
+ghost use Rattle.cover_rule.specs.Refusals.{NarrowStep, NarrowIfLessStep, UnitStep, BanStep, VoidEnd, FalseEnd, LemmaEnd, CutEnd, FlipEnd, CaseEnd, StuckEnd};
 ghost use Rattle.cover_data.specs.Views.{kept_of};
 
 use crate::narrower::Narrower;
@@ -20,7 +20,6 @@ use crate::truth::{find_centre, is_sure_at_middle};
 use crate::workspace::{Centre, Workspace};
 use crate::{branches, ends, steps};
 use cover_data::{ClosedPatch, KeptPatch, Lemma, Margins, State};
-use dyadic::Dy;
 use hc4::follow;
 use ival::Rows;
 use poly_graph::Problem;
@@ -214,10 +213,11 @@ impl<'a> Patch<'a> {
         self.kept.has_closed()
     }
 
-    /// Pulls atom j, which has to be marked yes: leaves of the space what the atom leaves of it.
-    pub fn pull(&mut self, j: u32) -> Result<(), PatchRefusal>
-        requires { j < length self.old.problem.atoms }
-        ensures { PullStep self.old j self.new result }
+    /// Narrows the space, where the marks allow it: leaves of it what the atom's range, its off-range, or the sum of the
+    /// combined terms, expanded at the middle of the space, leaves of it.
+    pub fn narrow(&mut self, by: Narrower) -> Result<(), PatchRefusal>
+        requires { NamesAtom self.old.problem by }
+        ensures { NarrowStep self.old (narrowing_of by.entry) self.new result }
     {
         steps::narrow(
             self.alloc,
@@ -225,15 +225,15 @@ impl<'a> Patch<'a> {
             &self.margins,
             &mut self.kept,
             &mut self.work,
-            Narrower::Pull(j),
+            by,
         )
     }
 
-    /// Pulls atom j, which has to be marked yes, where that leaves less of the space; whether it does. So no line is
-    /// spent on a pull that changes nothing.
-    pub fn pull_if_less(&mut self, j: u32) -> Result<bool, PatchRefusal>
-        requires { j < length self.old.problem.atoms }
-        ensures { PullIfLessStep self.old j self.new result }
+    /// Narrows the space, where the marks allow it and that leaves less of it; whether it does. So no line is spent on a
+    /// narrowing that changes nothing.
+    pub fn narrow_if_less(&mut self, by: Narrower) -> Result<bool, PatchRefusal>
+        requires { NamesAtom self.old.problem by }
+        ensures { NarrowIfLessStep self.old (narrowing_of by.entry) self.new result }
     {
         steps::narrow_if_less(
             self.alloc,
@@ -241,68 +241,7 @@ impl<'a> Patch<'a> {
             &self.margins,
             &mut self.kept,
             &mut self.work,
-            Narrower::Pull(j),
-        )
-    }
-
-    /// Pushes atom j, which has to be marked no and to be an inequality: leaves of the space what its off-range leaves
-    /// of it.
-    pub fn push(&mut self, j: u32) -> Result<(), PatchRefusal>
-        requires { j < length self.old.problem.atoms }
-        ensures { PushStep self.old j self.new result }
-    {
-        steps::narrow(
-            self.alloc,
-            self.problem,
-            &self.margins,
-            &mut self.kept,
-            &mut self.work,
-            Narrower::Push(j),
-        )
-    }
-
-    /// Pushes atom j, which has to be marked no and to be an inequality, where that leaves less of the space; whether
-    /// it does.
-    pub fn push_if_less(&mut self, j: u32) -> Result<bool, PatchRefusal>
-        requires { j < length self.old.problem.atoms }
-        ensures { PushIfLessStep self.old j self.new result }
-    {
-        steps::narrow_if_less(
-            self.alloc,
-            self.problem,
-            &self.margins,
-            &mut self.kept,
-            &mut self.work,
-            Narrower::Push(j),
-        )
-    }
-
-    /// Combines marked atoms, each with its multiplier: leaves of the space what the sum of their terms, expanded at the
-    /// middle of the space, leaves of it.
-    pub fn combine(&mut self, multipliers: &[(u32, Dy)]) -> Result<(), PatchRefusal>
-        ensures { CombineStep self.old (multipliers_of multipliers.now) self.new result }
-    {
-        steps::narrow(
-            self.alloc,
-            self.problem,
-            &self.margins,
-            &mut self.kept,
-            &mut self.work,
-            Narrower::Combine(multipliers),
-        )
-    }
-
-    /// Combines marked atoms, where that leaves less of the space; whether it does.
-    pub fn combine_if_less(&mut self, multipliers: &[(u32, Dy)]) -> Result<bool, PatchRefusal>
-        ensures { CombineIfLessStep self.old (multipliers_of multipliers.now) self.new result }
-    {
-        steps::narrow_if_less(
-            self.alloc,
-            self.problem,
-            &self.margins,
-            &mut self.kept,
-            &mut self.work,
-            Narrower::Combine(multipliers),
+            by,
         )
     }
 
@@ -330,10 +269,10 @@ impl<'a> Patch<'a> {
         steps::ban(self.alloc, &mut self.kept, j, lemma)
     }
 
-    /// Ends the patch by atom j, which is marked yes and leaves nothing.
-    pub fn void(&mut self, j: u32) -> Result<(), PatchRefusal>
-        requires { j < length self.old.problem.atoms }
-        ensures { VoidEnd self.old j self.new result }
+    /// Ends the patch where narrowing leaves nothing, and the marks allow it.
+    pub fn void(&mut self, by: Narrower) -> Result<(), PatchRefusal>
+        requires { NamesAtom self.old.problem by }
+        ensures { VoidEnd self.old (narrowing_of by.entry) self.new result }
     {
         ends::void(
             self.alloc,
@@ -341,36 +280,7 @@ impl<'a> Patch<'a> {
             &self.margins,
             &mut self.kept,
             &mut self.work,
-            Narrower::Pull(j),
-        )
-    }
-
-    /// Ends the patch by atom j, which is marked no, is an inequality, and leaves nothing.
-    pub fn void_no(&mut self, j: u32) -> Result<(), PatchRefusal>
-        requires { j < length self.old.problem.atoms }
-        ensures { VoidNoEnd self.old j self.new result }
-    {
-        ends::void(
-            self.alloc,
-            self.problem,
-            &self.margins,
-            &mut self.kept,
-            &mut self.work,
-            Narrower::Push(j),
-        )
-    }
-
-    /// Ends the patch by a combination of marked atoms that leaves nothing.
-    pub fn void_combine(&mut self, multipliers: &[(u32, Dy)]) -> Result<(), PatchRefusal>
-        ensures { VoidCombineEnd self.old (multipliers_of multipliers.now) self.new result }
-    {
-        ends::void(
-            self.alloc,
-            self.problem,
-            &self.margins,
-            &mut self.kept,
-            &mut self.work,
-            Narrower::Combine(multipliers),
+            by,
         )
     }
 

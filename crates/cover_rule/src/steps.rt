@@ -2,13 +2,14 @@
 ghost use Rattle.std.specs.Prelude.{◌≡◌, ◌≢◌, ◌<◌, [], ◌∷◌, ◌++◌, length, not, true, false, IsTrue, None, Some, OnOk, OnErr, IfErr, IfNone, OnSome};
 ghost use Rattle.poly_graph.specs.ProblemViews.{problem_of};
 ghost use Rattle.cover_model.specs.Fits.{FitsProblem};
+ghost use Rattle.cover_model.specs.Rules.{narrow_by};
 ghost use Rattle.cover_model.specs.State.{IsLemma, may, undecided, with_yes, with_no, with_space, covers};
 ghost use Rattle.ival.specs.SpaceViews.{space_of};
 ghost use Rattle.cover_data.specs.Margins.{AreMargins, loosenings_of};
 ghost use Rattle.cover_rule.specs.Serves.{HasRowsOf, IsReady, IsNumbered};
-ghost use Rattle.cover_rule.specs.Patch.{stepped, with_step};
-ghost use Rattle.cover_rule.specs.Narrowers.{FitsNarrowed, IsNarrowRefusal, IsSized, NamesAtom, NarrowIfLessStep, NarrowStep, line_of, narrow_refusal, narrowed_space, narrows_in};
-ghost use Rattle.cover_rule.specs.Refusals.{UnitStep, RunBanStep, unit_refusal, ban_refusal};
+ghost use Rattle.cover_rule.specs.Patch.{narrowed_in, narrowed_space, stepped, with_step};
+ghost use Rattle.cover_rule.specs.Narrowers.{FitsNarrowed, IsNarrowRefusal, IsSized, NamesAtom, narrowing_of};
+ghost use Rattle.cover_rule.specs.Refusals.{NarrowIfLessStep, NarrowStep, UnitStep, RunBanStep, narrow_refusal, unit_refusal, ban_refusal};
 ghost use Rattle.cover_rule.specs.declared.refusal.PatchRefusal.TheVariants as refusal;
 ghost use Rattle.cover_data.specs.Views.{kept_of, step_line};
 ghost use Rattle.cover_rule.specs.Held.{IsHeld, patch_of};
@@ -19,6 +20,7 @@ use crate::refusal::PatchRefusal;
 use crate::truth::may_hold;
 use crate::workspace::Workspace;
 use cover_data::{KeptPatch, Lemma, Margins, State, Step};
+use cover_line::Marking;
 use ival::Narrowed;
 use poly_graph::{Mark, Problem};
 use std::alloc::{AllocError, Global};
@@ -34,7 +36,7 @@ fn narrowed(
     requires held { IsHeld problem.now margins.now kept.now work.old }
     requires atom { NamesAtom problem.now by }
     ensures may { let P = patch_of problem.now margins.now kept.now in
-        OnOk result (narrow_refusal P by.entry ≡ None) }
+        OnOk result (narrow_refusal P (narrowing_of by.entry) ≡ None) }
     ensures refusal { let P = patch_of problem.now margins.now kept.now in
         IfErr result (λ e. IsNarrowRefusal P by.entry e) }
     ensures refused { OnErr result
@@ -44,13 +46,15 @@ fn narrowed(
     ensures size { OnOk result (IsSized by.entry) }
     ensures fits { OnOk result (FitsNarrowed (patch_of problem.now margins.now kept.now) by.entry) }
     ensures spare { let P = patch_of problem.now margins.now kept.now in
-        OnOk result (space_of work.new.spare ≡ narrowed_space P by.entry) }
+        OnOk result (space_of work.new.spare ≡ narrowed_space P (narrowing_of by.entry)) }
     ensures same { let P = patch_of problem.now margins.now kept.now in
         let space = kept.now.reached.space in
         result ≡ Ok false →
-        (narrows_in P by.entry ≡ Some space) × IsReady problem.now margins.now space work.new }
+        (narrowed_in P (narrowing_of by.entry) ≡ Some space) ×
+        IsReady problem.now margins.now space work.new }
     ensures less { let P = patch_of problem.now margins.now kept.now in
-        result ≡ Ok true → narrows_in P by.entry ≢ Some kept.now.reached.space }
+        let narrow = narrowed_in P (narrowing_of by.entry) in
+        result ≡ Ok true → narrow ≢ Some kept.now.reached.space }
 {
     if kept.end.is_some() {
         return Err(PatchRefusal::Ended);
@@ -120,7 +124,8 @@ fn take(
     requires length { length (space_of work.old.spare) ≡ length kept.old.reached.space }
     ensures ok { let k = kept_of kept.old in
         let reached = with_space k.reached (space_of work.old.spare) in
-        OnOk result (kept_of kept.new ≡ stepped k (line_of by.entry) k.quoted reached) }
+        let line = narrow_by (narrowing_of by.entry) in
+        OnOk result (kept_of kept.new ≡ stepped k line k.quoted reached) }
     ensures err { OnErr result (kept_of kept.new ≡ kept_of kept.old) }
     ensures memory { OnErr result (result ≡ Err refusal.Memory) }
     ensures ready { IsReady problem.now margins.now kept.new.reached.space work.new }
@@ -144,7 +149,7 @@ pub fn narrow(
     requires held { IsHeld problem.now margins.now kept.old work.old }
     requires atom { NamesAtom problem.now by }
     ensures answer { let P = patch_of problem.now margins.now in
-        NarrowStep (P kept.old) by.entry (P kept.new) result }
+        NarrowStep (P kept.old) (narrowing_of by.entry) (P kept.new) result }
     ensures ready { IsReady problem.now margins.now kept.new.reached.space work.new }
     ensures fits { OnOk result (FitsNarrowed (patch_of problem.now margins.now kept.old) by.entry) }
 {
@@ -164,7 +169,7 @@ pub fn narrow_if_less(
     requires held { IsHeld problem.now margins.now kept.old work.old }
     requires atom { NamesAtom problem.now by }
     ensures answer { let P = patch_of problem.now margins.now in
-        NarrowIfLessStep (P kept.old) by.entry (P kept.new) result }
+        NarrowIfLessStep (P kept.old) (narrowing_of by.entry) (P kept.new) result }
     ensures ready { IsReady problem.now margins.now kept.new.reached.space work.new }
     ensures fits { OnOk result (FitsNarrowed (patch_of problem.now margins.now kept.old) by.entry) }
 {
@@ -258,7 +263,7 @@ pub fn unit(
     if let Some(refusal) = unit_refusal(problem, margins, kept, work, j) {
         return Err(refusal);
     }
-    if add_step(kept, Step::Unit(j)).is_err() {
+    if add_step(kept, Step::Mark(Marking::Unit(j))).is_err() {
         return Err(PatchRefusal::Memory);
     }
     kept.reached.set_mark(j, Mark::Yes);
@@ -334,7 +339,8 @@ pub fn ban(alloc: Global, kept: &mut KeptPatch, j: u32, lemma: &Lemma) -> Result
     if let Some(refusal) = ban_refusal(kept, j, lemma) {
         return Err(refusal);
     }
-    if add_quoting_step(alloc, kept, Step::Ban(j, lemma.id()), lemma).is_err() {
+    let step = Step::Mark(Marking::Ban(j, lemma.id()));
+    if add_quoting_step(alloc, kept, step, lemma).is_err() {
         return Err(PatchRefusal::Memory);
     }
     kept.reached.set_mark(j, Mark::No);

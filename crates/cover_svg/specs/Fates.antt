@@ -1,6 +1,6 @@
 -- How branches of a tree end, as the picture shows it.
 use Rattle.std.specs.Prelude.{Option, Some, None}
-use Rattle.cover_model.specs.Rules.{by, by_range, by_off_range, by_combination, end_by, void_by, false_form, by_lemma, stay_by, open_state, stuck_atom}
+use Rattle.cover_model.specs.Rules.{end_by, void_by, false_form, by_lemma, stay_by, open_state, stuck_atom}
 use Rattle.cert_read.specs.CertLine.{CertLine, rule_line}
 use Rattle.cover_svg.specs.declared.fate.Fate.{Fate}
 use Rattle.cover_svg.specs.declared.fate.Fate.TheVariants.{Void, False, By, Open, Stuck}

@@ -166,7 +166,6 @@ pub record IsCover (o : Options) (b : BookModel) (cert : List ℕ) : Type 0 wher
   pub left : List Standing
   pub answer : IsAnswer (problem_in b) o cert (left_open left)
   pub says : (text : List ℕ) → SaysLeft o b text → text ≡ solve_text (problem_in b) o.budget (loosenings_of o) (left_open left)
-  pub none : has_live b ≡ false → has_stuck b ≡ false → left ≡ []
 
 all-of-none : (p : Problem) (width : ℕ) (xs : List Stands) → xs ≡ [] → All (λ (x : Stands). IsTrue (is_honest p width x.loosenings x.line.state x.line.does)) xs
 all-of-none p width [] e = All-nil (λ (x : Stands). IsTrue (is_honest p width x.loosenings x.line.state x.line.does))
@@ -185,7 +184,6 @@ module _ (b : BookModel) (w : IsBook b) (o : Options) (by : IsLeftBy o b) (n : b
       };
     };
     says = λ text s. s.crossed h;
-    none = λ e f. refl;
   }
     where
       stands : standing (problem_in b) o.bound cert ≡ []
@@ -206,7 +204,6 @@ module _ (b : BookModel) (w : IsBook b) (o : Options) (by : IsLeftBy o b) (n : b
       };
     };
     says = λ text s. s.tree c.tree c.left c.is_tree;
-    none = λ e f. (left_tells_of_nodes b w c.tree c.left c.is_tree).nothing.1 (e, f);
   }
     where
       many : branches (problem_in b) o.bound cert ≡ b.branches
@@ -238,20 +235,6 @@ module _ (b : BookModel) (w : IsBook b) (o : Options) (by : IsLeftBy o b) (n : b
 -- what is told of a book without a point is an answer
 pub search_answer : (p : Problem) (o : Options) (told : SearchAnswer) → IsLeftAnswer p o told → IsSearchAnswer p o told
 search_answer p o told h = record { value = left_open h.left; answer = h.answer; text = h.text }
-
--- a book that says unsat keeps no point
-pub unsat_keeps_none : (b : BookModel) → verdict_of b ≡ Unsat → b.point ≡ None
-unsat_keeps_none b e = by b.point (nothing-in-unsat b e).0
-  where
-    by : (o : Option Space) → is_some o ≡ false → o ≡ None
-    by None f = refl
-    by (Some x) f = absurd (true≢false f)
-
-pub unsat_leaves_none : (b : BookModel) (w : IsBook b) → verdict_of b ≡ Unsat → (cert : List ℕ) → IsCertificateOf b cert → (o : Options) → IsLeftBy o b → IsAnswer (problem_in b) o cert (left_open [])
-unsat_leaves_none b w e cert c o by =
-    let x = cover_is b w o by (unsat_keeps_none b e) cert c in
-    let none = nothing-in-unsat b e in
-    subst (λ (left : List Standing). IsAnswer (problem_in b) o cert (left_open left)) (x.none none.1 none.2) x.answer
 
 -- ---- points
 

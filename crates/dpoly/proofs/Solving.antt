@@ -1,12 +1,12 @@
 -- From a certificate to the end of a run.
-use Rattle.std.proofs.Common.{◌≡◌, ℕ, List, [], Bool, length, refl, subst, ◌∙◌}
+use Rattle.std.proofs.Common.{◌≡◌, ℕ, List, [], Bool, length, refl, ap, subst, ◌∙◌}
 use Rattle.desk.specs.Sight.{Sight}
 use Rattle.command_line.specs.declared.request.Options.{Options}
 use Rattle.poly_graph.specs.Problem.{Problem}
-use Rattle.cert_model.specs.Due.{Value, left_open}
-use Rattle.cert_model.specs.AnswerText.{demo_text}
+use Rattle.cert_model.specs.Due.{Value}
+use Rattle.cert_model.specs.AnswerText.{solve_text}
 use Rattle.check_run.specs.declared.status.Status.{Status}
-use Rattle.check_run.specs.Answer.{loosenings_for, solve_texts, AreAnswers, IsAnswer}
+use Rattle.check_run.specs.Answer.{demo_text, loosenings_for, loosenings_of, solve_texts, AreAnswers, IsAnswer}
 use Rattle.check_run.specs.Course.{gives, Ends, RunEnds, on_course}
 use Rattle.check_run.specs.Can.{CanSolve, CanDemo}
 
@@ -23,8 +23,9 @@ pub solved : (ps : List (Problem × Bool)) (o : Options) (name bytes cert text a
 solved ps o name bytes cert text answer values old new status is e e' e'' ends =
     on_course (gives name cert (solve_texts o.budget (loosenings_for (length ps) o) ps values)) (cert, values, is, refl) (written name bytes cert answer _ old new status e (e'' ∙ e') ends)
 
-pub demonstrated : (p : Problem) (o : Options) (name script bytes cert text answer : List ℕ) (old new : Sight) (status : Status)
-    → IsAnswer p o cert (left_open []) → bytes ≡ cert → text ≡ demo_text (length script) (length p.atoms) → answer ≡ text
+pub demonstrated : (p : Problem) (o : Options) (name script bytes cert told text answer : List ℕ) (value : Value) (old new : Sight) (status : Status)
+    → IsAnswer p o cert value → told ≡ solve_text p o.budget (loosenings_of o) value → bytes ≡ cert → text ≡ demo_text (length script) (length p.atoms) told → answer ≡ text
     → Ends (gives name bytes answer) old new status → RunEnds (CanDemo p o name script) [] old new status
-demonstrated p o name script bytes cert text answer old new status is e e' e'' ends =
-    on_course (gives name cert (demo_text (length script) (length p.atoms))) (cert, is, refl) (written name bytes cert answer _ old new status e (e'' ∙ e') ends)
+demonstrated p o name script bytes cert told text answer value old new status is says e e' e'' ends =
+    on_course (gives name cert (demo_text (length script) (length p.atoms) (solve_text p o.budget (loosenings_of o) value))) (cert, value, is, refl)
+    (written name bytes cert answer _ old new status e (e'' ∙ e' ∙ ap (demo_text (length script) (length p.atoms)) says) ends)

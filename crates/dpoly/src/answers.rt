@@ -1,7 +1,6 @@
 // From the books that searches left to their certificate and their answers.
 ghost use Rattle.std.specs.Prelude.{◌≡◌, [], ◌∷◌, Bool, List, None, Some, IfOk};
 ghost use Rattle.command_line.specs.declared.request.Options.{Options};
-ghost use Rattle.cert_model.specs.Due.{left_open};
 ghost use Rattle.cover_book.specs.Keeps.{IsBook};
 ghost use Rattle.cover_book.specs.Model.{IsOfRoot, problem_in};
 ghost use Rattle.cover_book.specs.Session.{AreBooksOf};
@@ -9,7 +8,6 @@ ghost use Rattle.poly_graph.specs.ProblemViews.{Parts};
 ghost use Rattle.problem_session.specs.Session.{problems_of};
 ghost use Rattle.cover_book.specs.Verdict.{verdict_of};
 ghost use Rattle.cover_book.specs.declared.verdict.BookVerdict.TheVariants as verdict;
-ghost use Rattle.check_run.specs.Answer.{IsAnswer};
 ghost use Rattle.dpoly.specs.Minimize.{IsLeftAnswer};
 ghost use Rattle.dpoly.specs.Search.{search_options as options_of, AreLeftBy, AreSearchAnswers, IsLeftBy, IsSearchAnswer, SayOf, SaysLeft, SaysOf};
 
@@ -160,16 +158,4 @@ pub fn tell_all(
     let cert = write_session(alloc, books)?;
     let text = texts_of(alloc, books, options)?;
     Ok(SearchAnswer { cert, text })
-}
-
-/// The certificate of a book that leaves nothing.
-pub fn whole_cover(alloc: Global, book: &Book) -> Result<Vec<u8>, AllocError>
-    requires unsat { verdict_of book.now ≡ verdict.Unsat }
-    requires alone { book.now.kept ≡ [] }
-    requires root { IsOfRoot book.now }
-    ensures { IfOk result (λ cert. (options : Options) → IsLeftBy options book.now →
-        IsAnswer (problem_in book.now) options cert.items (left_open [])) }
-{
-    book_is_sound(book);
-    write_cover(alloc, book)
 }

@@ -1,9 +1,9 @@
 // What standard error says of a run that gave no answer, or one that a hint helps with: for people to read, and promised
 // by no clause.
-use crate::located::assertion_with;
+use crate::located::{assertion_with, goal_in_force};
 use check_run::Status;
 use command_line::{JoinWords, Request, read_words, usage_text};
-use file_desk::{FileDesk, Messages};
+use file_desk::{FileDesk, Messages, Unfinished};
 use root_notes::say_conditional_roots;
 use std::alloc::Global;
 
@@ -56,7 +56,7 @@ fn messages_of<'a>(alloc: Global, words: &'a [String], answer: &str) -> Messages
 
 // What would help, behind an answer of `minimize` or of another command that leaves a question open, by the first line of
 // it.
-const HINTS: [(bool, &str, &str); 5] = [
+const HINTS: [(bool, &str, &str); 7] = [
     (
         false,
         "plan none atom ",
@@ -71,6 +71,16 @@ const HINTS: [(bool, &str, &str); 5] = [
         false,
         "unknown width",
         "`dpoly plan`, with the same script and options, tells with which `--least-bits` this answer never comes",
+    ),
+    (
+        false,
+        "unknown budget ",
+        "the budget is spent. A greater `--budget`, or tighter bounds of the constants, may help",
+    ),
+    (
+        true,
+        "unknown budget ",
+        "the budget of all searches is spent. A greater `--budget` or a smaller `--gap-bits` may help",
     ),
     (
         true,
@@ -143,6 +153,35 @@ fn asks_least(alloc: Global, words: &[String]) -> bool {
     }
 }
 
+// The certificate that the search of these words leaves.
+fn searched<'a>(alloc: Global, words: &'a [String]) -> Option<Unfinished<'a>> {
+    let (script, cert, bound) = match read_words(alloc, words) {
+        Ok(Request::Solve(asked)) => (asked.script, asked.cert, asked.options.bound),
+        Ok(Request::Resume(asked)) => (asked.script, asked.out, asked.bound),
+        _ => return None,
+    };
+    Some(Unfinished {
+        script,
+        cert,
+        bound,
+    })
+}
+
+// The certificate that these words have checked, or have gone on with in part.
+fn looked_at<'a>(alloc: Global, words: &'a [String]) -> Option<Unfinished<'a>> {
+    let (script, cert, bound) = match read_words(alloc, words) {
+        Ok(Request::Check(asked)) => (asked.script, asked.cert, asked.bound),
+        Ok(Request::Join(asked)) => (asked.script, asked.out, asked.bound),
+        Ok(Request::Resume(asked)) => (asked.script, asked.out, asked.bound),
+        _ => return None,
+    };
+    Some(Unfinished {
+        script,
+        cert,
+        bound,
+    })
+}
+
 // Says of which check the next line is, where there are several.
 fn show_check(rt: &HostRuntime, which: Which) {
     if which.checks > 1 {
@@ -176,6 +215,38 @@ fn show_hint(rt: &HostRuntime, line: &str, which: Which) {
     }
 }
 
+// Says what is left of a check whose answer begins with this line, and of the only check how to go on.
+fn show_left(rt: &HostRuntime, unfinished: &Unfinished<'_>, line: &str, which: Which) {
+    if line.starts_with("unknown ") {
+        unfinished.say_left(rt, which.check);
+        if which.checks == 1 && line.starts_with("unknown budget ") {
+            unfinished.say_resume(rt);
+        }
+    }
+}
+
+// How many checks an answer of `check` or `join` tells of, in which no names stand.
+fn checks_told(answer: &str) -> usize {
+    let mut count = 0usize;
+    for line in answer.lines() {
+        if line.starts_with("open ") || line.starts_with("confirmed ") {
+            count = count.saturating_add(1);
+        }
+    }
+    count
+}
+
+// Says what a certificate that was checked, or resumed in part, leaves, where it is one of one check.
+fn show_open(rt: &HostRuntime, unfinished: &Unfinished<'_>, answer: &str) {
+    if answer.starts_with("part ") {
+        unfinished.say_left(rt, 0);
+        let _ = eprintln!(rt; "dpoly: `dpoly join` makes one certificate of those of all parts");
+    } else if answer.starts_with("open ") && checks_told(answer) == 1 {
+        unfinished.say_left(rt, 0);
+        unfinished.say_resume(rt);
+    }
+}
+
 // How many checks are answered.
 fn answers_in(answer: &str) -> usize {
     let mut count = 0usize;
@@ -187,40 +258,79 @@ fn answers_in(answer: &str) -> usize {
     count
 }
 
+// Says what would help, behind the first line of a check's answer.
+fn show_help(
+    rt: &HostRuntime,
+    messages: &Messages<'_>,
+    desk: &FileDesk,
+    unfinished: &Option<Unfinished<'_>>,
+    line: &str,
+    which: Which,
+) {
+    show_hint(rt, line, which);
+    if let Some(unfinished) = unfinished {
+        show_left(rt, unfinished, line, which);
+    }
+    if line.starts_with("plan none atom ") {
+        show_atom(rt, messages, desk, line, which.check);
+    }
+}
+
 // Says on standard error what would help, behind each answer that leaves a question open.
-fn hint(rt: &HostRuntime, messages: &Messages<'_>, desk: &FileDesk, least: bool) {
-    let checks = answers_in(desk.answer());
-    let mut begun = 0usize;
+fn hint(rt: &HostRuntime, words: &[String], messages: &Messages<'_>, desk: &FileDesk) {
+    let mut which = Which {
+        check: 0,
+        checks: answers_in(desk.answer()),
+        least: asks_least(rt.alloc(), words),
+    };
+    let unfinished = searched(rt.alloc(), words);
     let mut names_atom = false;
     for line in desk.answer().lines() {
-        let check = begun.saturating_sub(1);
         if names_atom {
+            let check = which.check.saturating_sub(1);
             show_atom(rt, messages, desk, line, check);
         }
         names_atom = line == "unknown width";
         if begins_answer(line) {
-            show_hint(
-                rt,
-                line,
-                Which {
-                    check: begun,
-                    checks,
-                    least,
-                },
-            );
-            if line.starts_with("plan none atom ") {
-                show_atom(rt, messages, desk, line, begun);
-            }
-            begun = begun.saturating_add(1);
+            show_help(rt, messages, desk, &unfinished, line, which);
+            which.check = which.check.saturating_add(1);
         }
+    }
+    if let Some(unfinished) = looked_at(rt.alloc(), words) {
+        show_open(rt, &unfinished, desk.answer());
     }
 }
 
 // Says what would help with a script that is refused.
-fn script_hint(rt: &HostRuntime, desk: &FileDesk) {
+fn script_hint(rt: &HostRuntime, messages: &Messages<'_>, desk: &FileDesk) {
+    if desk.answer().starts_with("script fault 17 NoGoal ") {
+        say_no_goal(rt, messages, desk);
+    }
     for (begins, help) in &SCRIPT_HINTS {
         if desk.answer().starts_with(*begins) {
             let _ = eprintln!(rt; "dpoly: {help}");
+        }
+    }
+}
+
+// Says of a script for which `minimize` has no goal whether one is in force.
+fn say_no_goal(rt: &HostRuntime, messages: &Messages<'_>, desk: &FileDesk) {
+    let Some(script) = messages.script_text(rt, desk) else {
+        return;
+    };
+    match goal_in_force(rt.alloc(), &script) {
+        Some(place) => {
+            let (line, column) = (place.line as usize, place.column as usize);
+            let _ = eprintln!(rt; "dpoly: an ite of Reals stands in the goal, {line}:{column}");
+            messages.show_place(rt, &script, line, column);
+            let _ = eprintln!(rt;
+                "dpoly: name its value by a constant z with bounds, (assert (= z (ite c a b))), and ask for (minimize z)"
+            );
+        }
+        None => {
+            let _ = eprintln!(rt;
+                "dpoly: no goal, as (minimize (+ x y)), is in force at the check"
+            );
         }
     }
 }
@@ -252,7 +362,7 @@ pub fn explain(rt: &HostRuntime, words: &[String], desk: &FileDesk, status: Stat
     match status {
         Status::Answered => {
             show_roots(rt, words, &messages, desk);
-            hint(rt, &messages, desk, asks_least(rt.alloc(), words));
+            hint(rt, words, &messages, desk);
             messages.decimals(rt, desk);
         }
         Status::Usage => {
@@ -262,7 +372,7 @@ pub fn explain(rt: &HostRuntime, words: &[String], desk: &FileDesk, status: Stat
         }
         Status::ScriptRefused => {
             messages.script_refused(rt, desk);
-            script_hint(rt, desk);
+            script_hint(rt, &messages, desk);
         }
         Status::CertRefused => {
             messages.cert_refused(rt, desk);

@@ -158,3 +158,28 @@ pub fn assertion_with(alloc: Global, script: &[u8], check: usize, atom: usize) -
     let places = assertions(alloc, script, check).ok()?;
     last_before(alloc, script, &places, atom).ok()?
 }
+
+// Whether the place is among these.
+fn is_among(place: Place, places: &[Place]) -> bool {
+    for it in places {
+        if *it == place {
+            return true;
+        }
+    }
+    false
+}
+
+/// The goal that is in force at the first check; none where there is none, or the script cannot be read once more.
+pub fn goal_in_force(alloc: Global, script: &[u8]) -> Option<Place> {
+    let places = assertions(alloc, script, 0).ok()?;
+    let sexps = read(alloc, script).ok()?;
+    let course = commands(alloc, &sexps).ok()?;
+    for step in &course.steps {
+        if let Step::Command(Command::Minimize(place, _)) = step {
+            if is_among(*place, &places) {
+                return Some(*place);
+            }
+        }
+    }
+    None
+}

@@ -2,9 +2,6 @@
 ghost use Rattle.std.specs.Prelude.{◌≡◌, [], IfOk, length};
 ghost use Rattle.command_line.specs.Words.{AreOptions};
 ghost use Rattle.poly_graph.specs.ProblemViews.{problem_of};
-ghost use Rattle.cert_model.specs.AnswerText.{demo_text};
-ghost use Rattle.cert_model.specs.Due.{left_open};
-ghost use Rattle.check_run.specs.Answer.{IsAnswer};
 ghost use Rattle.check_run.specs.Course.{RunEnds};
 ghost use Rattle.check_run.specs.Can.{CanSolve, CanDemo};
 ghost use Rattle.check_run.specs.Run.{DemoHasCause, SameIn, SolveHasCause};
@@ -15,10 +12,10 @@ ghost use Rattle.cover_book.specs.Session.{AreBooksOf};
 ghost use Rattle.problem_session.specs.Session.{problems_of};
 ghost use Rattle.dpoly.specs.Search.{search_options as options_of, AreLeftBy, AreSearchAnswers, IsLeftBy, IsSearchAnswer};
 
-use crate::answers::{SearchAnswer, search_options, tell, tell_all, whole_cover};
+use crate::answers::{SearchAnswer, search_options, tell, tell_all};
 use check_run::{Status, finish};
 use command_line::Options;
-use cover_book::{Book, BookVerdict};
+use cover_book::Book;
 use desk::Desk;
 use poly_graph::Problem;
 use problem_session::Session;
@@ -60,29 +57,6 @@ fn solved<R: Threads + Wait + Sync, G: Gate + Sync>(
 {
     let book = search(rt, alloc, problem, options, gate)?;
     tell(alloc, &book, options)
-}
-
-// The certificate of a problem of which nothing is left.
-fn covered<R: Threads + Wait + Sync, G: Gate + Sync>(
-    rt: &R,
-    alloc: Global,
-    problem: &Problem,
-    options: &Options,
-    gate: &G,
-) -> Result<Vec<u8>, AllocError>
-    requires options { AreOptions options.now }
-    requires within { IsWithin problem.now }
-    ensures { IfOk result (λ cert.
-        IsAnswer (problem_of problem.now) options.now cert.items (left_open [])) }
-{
-    let book = search(rt, alloc, problem, options, gate)?;
-    match book.verdict() {
-        BookVerdict::Unsat => whole_cover(alloc, &book),
-        // No script of the demo has another answer: no point of the box from 0 to 1 meets an equation loosened by
-        // delta, and each box whose sides are at most 1/32 is closed, long before the budget is used up. That is not
-        // proved.
-        _ => Err(AllocError),
-    }
 }
 
 // The books that searches leave at the checks of a session.
@@ -150,7 +124,7 @@ pub fn solve_session<R: Threads + Wait + Sync, D: Desk, G: Gate + Sync>(
     }
 }
 
-/// Solves the problem of a script of so many bytes, and answers how large they are.
+/// Solves the problem of a script, and answers how large the script is and how the search ended.
 pub fn solve_demo<R: Threads + Wait + Sync, D: Desk, G: Gate + Sync>(
     rt: &R,
     alloc: Global,
@@ -168,13 +142,14 @@ pub fn solve_demo<R: Threads + Wait + Sync, D: Desk, G: Gate + Sync>(
     ensures same { SameIn (D.sight desk.old) (D.sight desk.new) }
     ensures cause { DemoHasCause (D.sight desk.old) (D.sight desk.new) result }
 {
-    match covered(rt, alloc, problem, &options, gate) {
-        Ok(cert) => match check_run::demo(
+    match solved(rt, alloc, problem, &options, gate) {
+        Ok(told) => match check_run::demo(
             alloc,
             script.len() as u64,
             problem.atoms().len() as u64,
+            &told.text,
         ) {
-            Ok(text) => finish(desk, name, &cert, &text),
+            Ok(text) => finish(desk, name, &told.cert, &text),
             Err(_) => Status::NoMemory,
         },
         Err(_) => Status::NoMemory,

@@ -221,11 +221,11 @@ fn run_command<R: Threads + Wait + Sync, D: Desk, G: Gate + Sync>(
 /// `minimize SCRIPT CERT` does so for the least value of the script's goal.
 /// `check SCRIPT CERT` reads a script and a certificate, and answers whether the certificate is accepted, and what it shows
 /// of each check. `upgrade SCRIPT CERT OUT` does so too, and writes a certificate that is accepted in the newest version of
-/// its format. `demo SEED SIZE CERT` makes a script, solves it, and answers how large it was. `plan SCRIPT` reads a script,
-/// and answers of each check with which least width `solve` never answers `unknown width` of it. `resume SCRIPT CERT OUT`
-/// reads a script and a certificate, goes on where that is open or stuck, and writes the whole. `join SCRIPT OUT CERT CERT`
-/// reads a script and two or more certificates of its only check, makes one of them, checks it, and answers what it shows;
-/// it is written whole or not at all. The gate is called when work on a box begins and ends.
+/// its format. `demo SEED SIZE CERT` makes a script, solves it, and answers how large it was and how the search ended.
+/// `plan SCRIPT` reads a script, and answers of each check with which least width `solve` never answers `unknown width` of
+/// it. `resume SCRIPT CERT OUT` reads a script and a certificate, goes on where that is open or stuck, and writes the whole.
+/// `join SCRIPT OUT CERT CERT` reads a script and two or more certificates of its only check, makes one of them, checks it,
+/// and answers what it shows; it is written whole or not at all. The gate is called when work on a box begins and ends.
 pub fn run_top<R: Threads + Wait + Sync, D: Desk, G: Gate + Sync>(
     rt: &R,
     alloc: Global,

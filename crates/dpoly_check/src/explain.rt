@@ -28,11 +28,14 @@ fn show_roots(rt: &HostRuntime, messages: &Messages<'_>, desk: &FileDesk) {
 
 /// Says on standard error why the run of these words gave no answer: which word is wrong, or the help; which file could
 /// not be read; where the script, or the certificate, is refused. Behind an answer it says which roots of the script stand
-/// under conditions.
+/// under conditions, and the bounds of a least value as decimals.
 pub fn explain(rt: &HostRuntime, words: &[String], desk: &FileDesk, status: Status) {
     let messages = messages_of(rt.alloc(), words);
     match status {
-        Status::Answered => show_roots(rt, &messages, desk),
+        Status::Answered => {
+            show_roots(rt, &messages, desk);
+            messages.decimals(rt, desk);
+        }
         Status::Usage => {
             if let Ok(text) = checker_usage_text(rt.alloc(), words) {
                 let _ = rt.eprint(text);

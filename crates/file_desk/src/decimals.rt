@@ -78,3 +78,27 @@ pub fn decimals_of(alloc: Global, text: &str) -> Result<Option<String>, AllocErr
     push_fraction(&mut shown, size.wrapping_sub(above), places)?;
     Ok(Some(shown))
 }
+
+// The decimals of an end of a range; 0 has no exponent.
+fn end_of(alloc: Global, text: &str) -> Result<Option<String>, AllocError> {
+    if text == "0" {
+        Ok(Some("0".to_string(alloc)?))
+    } else {
+        decimals_of(alloc, text)
+    }
+}
+
+/// The decimals of the ends of a range, unless both are 0.
+pub fn ends_of(
+    alloc: Global,
+    low: &str,
+    high: &str,
+) -> Result<Option<(String, String)>, AllocError> {
+    if low == "0" && high == "0" {
+        return Ok(None);
+    }
+    match (end_of(alloc, low)?, end_of(alloc, high)?) {
+        (Some(low), Some(high)) => Ok(Some((low, high))),
+        _ => Ok(None),
+    }
+}

@@ -1,11 +1,13 @@
 // What standard error says of a run that gave no answer: for people to read, and promised by no clause.
 ghost use Rattle.std.specs.Prelude.{◌<◌};
 
-use crate::decimals::decimals_of;
+use crate::decimals::{decimals_of, ends_of};
 use crate::files::FileDesk;
-use crate::hints::hint_for;
+use crate::hints::{cert_hint_for, hint_for};
+use crate::outputs::is_plain_file;
 use desk::Port;
 use std::alloc::{AllocError, Global};
+use std::io::Read;
 use std::{fs, io};
 
 /// At most so many bytes of a script's line are shown.
@@ -116,6 +118,21 @@ fn sink<'a>(name: &'a str) -> &'a str {
     if name == "-" { "standard output" } else { name }
 }
 
+// The first bytes of a plain file; none where it cannot be read.
+fn beginning(rt: &HostRuntime, name: &str) -> Vec<u8> {
+    let mut bytes = Vec::new(rt.alloc());
+    if !is_plain_file(rt, name) {
+        return bytes;
+    }
+    let mut buffer = [0u8; 16];
+    if let Ok(mut file) = fs::open(rt, name) {
+        if let Ok(count) = file.read(&mut buffer) {
+            let _ = bytes.extend_from_slice(&buffer[..count]);
+        }
+    }
+    bytes
+}
+
 impl<'a> Messages<'a> {
     // What a port is called; of certificates that are read at any place, the first that failed.
     fn port_name<'b>(&'b self, desk: &'b FileDesk, port: Port) -> &'b str {
@@ -207,20 +224,17 @@ impl<'a> Messages<'a> {
         let Some((rest, last)) = line.rsplit_once(' ') else {
             return Ok(());
         };
-        let Some(upper) = decimals_of(rt.alloc(), last)? else {
-            return Ok(());
-        };
-        let program = self.program;
-        let _ = match rest.rsplit_once(' ') {
-            Some((name, first)) => match decimals_of(rt.alloc(), first)? {
-                Some(lower) => {
-                    let name = printable(rt.alloc(), name)?;
-                    eprintln!(rt; "{program}: {name} from {lower} to {upper}")
-                }
-                None => self.say_decimal(rt, rest, &upper),
-            },
-            None => self.say_decimal(rt, rest, &upper),
-        };
+        if let Some((name, first)) = rest.rsplit_once(' ') {
+            if let Some((lower, upper)) = ends_of(rt.alloc(), first, last)? {
+                let program = self.program;
+                let name = printable(rt.alloc(), name)?;
+                let _ = eprintln!(rt; "{program}: {name} from {lower} to {upper}");
+                return Ok(());
+            }
+        }
+        if let Some(value) = decimals_of(rt.alloc(), last)? {
+            let _ = self.say_decimal(rt, rest, &value);
+        }
         Ok(())
     }
 
@@ -246,6 +260,10 @@ impl<'a> Messages<'a> {
             _ => desk.answer(),
         };
         self.say(rt, source(self.cert_in), text);
+        if let Some(help) = cert_hint_for(text, &beginning(rt, self.cert_in)) {
+            let program = self.program;
+            let _ = eprintln!(rt; "{program}: {help}");
+        }
     }
 
     /// Says that there was no memory.

@@ -1,4 +1,4 @@
-// What is known of a file that a run is to write, before the run begins.
+// What is known of a file by its name.
 use crate::draft::Draft;
 use std::fs::File;
 use std::io::ErrorKind;
@@ -19,6 +19,11 @@ pub fn is_same_file(rt: &HostRuntime, one: &str, other: &str) -> bool {
         }
         _ => false,
     }
+}
+
+/// Whether the name is that of a plain file, which can be read once more without waiting.
+pub fn is_plain_file(rt: &HostRuntime, name: &str) -> bool {
+    name != "-" && fs::metadata(rt, name).is_ok_and(|found| found.is_file())
 }
 
 /// Opens a file of this name for writing, where there is one, or else makes one beside it and takes that away again. No file

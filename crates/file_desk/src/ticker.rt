@@ -34,6 +34,11 @@ impl Ticker {
         }
     }
 
+    /// Whether lines may be shown at all.
+    pub fn is_on(&self) -> bool {
+        self.start.is_some()
+    }
+
     /// The allocator for lines.
     pub fn alloc(&self) -> Global {
         self.rt.alloc()

@@ -4,7 +4,7 @@ use Rattle.interval_model.specs.Space.{Space}
 use Rattle.poly_graph.specs.Problem.{Declared, real_between, any_bool, Axis, Problem}
 use Rattle.cover_line.specs.Words.{word_of}
 use Rattle.cover_model.specs.State.{State, Loosenings, root_state}
-use Rattle.cover_model.specs.Rules.{Line, stuck, Left, closed, one, two, stays, is_stuck_atom, when, rule, stay_by, open_state, stuck_atom}
+use Rattle.cover_model.specs.Rules.{Line, stuck, Left, closed, one, two, stays, can_stay, when, rule, stay_by}
 use Rattle.cert_read.specs.CertLine.{CertLine, rule_line, over, end_word}
 use Rattle.cert_model.specs.Due.{CertFault, RuleFails, Standing, left_open, Due, axis_due, coordinate_due, root_due, tree_due, end_due, nothing_due, Next, on, faulty, names_well, after_rule, tree_goes_on, is_crossed_box}
 use Rattle.cert_model.specs.Accepted.{next, ruled_line, axis_line, coordinate_line, root_line, Course, stopped, reached, course_next, course_of_lines}
@@ -69,8 +69,7 @@ when-stays true = tt
 when-stays false = tt
 
 open-stays : (p : Problem) (s : Loosenings) (lemmas : List State) (S : State) (m : Line) → leaves_open m ≡ true → StaysOrFails (rule p s lemmas S m)
-open-stays p s lemmas S (stay_by open_state) h = tt
-open-stays p s lemmas S (stay_by (stuck_atom j)) h = when-stays (is_stuck_atom p s S j)
+open-stays p s lemmas S (stay_by t) h = when-stays (can_stay p s S t)
 open-stays p s lemmas S _ h = no_left h
 
 module _ (p : Problem) (b : Option ℕ) where

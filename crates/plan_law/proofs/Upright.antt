@@ -11,10 +11,10 @@ use Rattle.poly_graph.specs.Problem.{Problem, atom_at}
 use Rattle.poly_graph.proofs.Bools.{not_both}
 use Rattle.cover_model.specs.Space.{range}
 use Rattle.cover_model.specs.OffRange.{off_range}
-use Rattle.cover_model.specs.State.{State, Loosenings, margin_of, in_yes, undecided, with_yes, with_no, may}
+use Rattle.cover_model.specs.State.{State, Loosenings, margin_of, may}
 use Rattle.cover_model.specs.Narrowed.{from_parents, own, narrowed_from, narrowed, some_empty, set_axis, with_axes, enclosures, narrowed_by}
 use Rattle.cover_model.specs.Combination.{Multipliers, Part, Expansion, expansion, range_of, part_range, allowed_range, tightened, with_axis, with_intervals, combined_about, marked_range}
-use Rattle.cover_model.specs.Rules.{Line, open_line, stuck, Left, closed, one, two, stays, narrowing, narrowing_off, can_push, can_combine, combining, lemma_covers, when, pulled, voided, is_stuck_atom, rule, narrow_by, by_range, by_off_range, by_combination, end_by, void_by, false_form, by_lemma, mark_by, unit_atom, ban_atom, branch_by, cut_axis, flip_axis, case_atom, stay_by, open_state, stuck_atom}
+use Rattle.cover_model.specs.Rules.{Line, narrow_by, Narrowing, by_range, by_off_range, by_combination, end_by, void_by, false_form, by_lemma, mark_by, Marking, unit_atom, ban_atom, branch_by, Branching, cut_axis, flip_axis, case_atom, stay_by, open_state, stuck_atom, open_line, stuck, Left, closed, one, two, stays, can_narrow, narrowed_to, lemma_covers, can_mark, marked, can_branch, first_child, second_child, is_stuck_atom, when, pulled, voided, rule}
 
 -- ---- intervals
 
@@ -180,22 +180,32 @@ voided-upright Q None = tt
 voided-upright Q (Some space) = tt
 
 module _ (p : Problem) (s : Loosenings) (lemmas : List State) (S : State) (u : IsTrue (is_upright S.space)) where
+  narrow-upright : (n : Narrowing) (space : Space) → narrowed_to p s S n ≡ Some space → IsTrue (is_upright space)
+  narrow-upright (by_range j) space e = narrowed-upright p.nodes (atom_at p j).0 (range (margin_of s) (atom_at p j).1) S.space space u e
+  narrow-upright (by_off_range j) space e = narrowed-upright p.nodes (atom_at p j).0 (off_range (margin_of s) (atom_at p j).1) S.space space u e
+  narrow-upright (by_combination ms) space e = combined-upright p (marked_range p (margin_of s) S.marks) S.space (middle S.space) ms space u e
+
+  mark-upright : (m : Marking) → IsTrue (is_upright (marked S m).space)
+  mark-upright (unit_atom j) = u
+  mark-upright (ban_atom j i) = u
+
+  first-upright : (b : Branching) → IsTrue (can_branch S b) → IsTrue (is_upright (first_child S b).space)
+  first-upright (cut_axis axis c) e = changed-upright (lower_part c) (strictly_inside c) (lower-upright c) axis S.space u e
+  first-upright (flip_axis axis) e = changed-upright (keep false) is_undecided (keep-upright false) axis S.space u e
+  first-upright (case_atom j) e = u
+
+  second-upright : (b : Branching) → IsTrue (can_branch S b) → IsTrue (is_upright (second_child S b).space)
+  second-upright (cut_axis axis c) e = changed-upright (upper_part c) (strictly_inside c) (upper-upright c) axis S.space u e
+  second-upright (flip_axis axis) e = changed-upright (keep true) is_undecided (keep-upright true) axis S.space u e
+  second-upright (case_atom j) e = u
+
   -- Q follows for the lines at which a state may stay
   pub rule_upright : (l : Line) (Q : Type 0) → (l ≡ open_line → Q) → ((j : ℕ) → l ≡ stuck j → IsTrue (is_stuck_atom p s S j) → Q) → UprightIf Q (rule p s lemmas S l)
-  rule_upright (narrow_by (by_range j)) Q f g = by-cond Q (in_yes S j) (pulled S (narrowing p s S j)) (pulled-upright Q S (narrowing p s S j) (λ x e. narrowed-upright p.nodes (atom_at p j).0 (range (margin_of s) (atom_at p j).1) S.space x u e))
-  rule_upright (mark_by (unit_atom j)) Q f g = by-when Q (undecided S j && not (may p s (with_no S j))) (one (with_yes S j)) (λ e. u)
-  rule_upright (mark_by (ban_atom j k)) Q f g = by-when Q (undecided S j && lemma_covers lemmas k (with_yes S j)) (one (with_no S j)) (λ e. u)
-  rule_upright (end_by (void_by (by_range j))) Q f g = by-cond Q (in_yes S j) (voided (narrowing p s S j)) (voided-upright Q (narrowing p s S j))
-  rule_upright (narrow_by (by_off_range j)) Q f g = by-cond Q (can_push p s S j) (pulled S (narrowing_off p s S j)) (pulled-upright Q S (narrowing_off p s S j) (λ x e. narrowed-upright p.nodes (atom_at p j).0 (off_range (margin_of s) (atom_at p j).1) S.space x u e))
-  rule_upright (end_by (void_by (by_off_range j))) Q f g = by-cond Q (can_push p s S j) (voided (narrowing_off p s S j)) (voided-upright Q (narrowing_off p s S j))
-  rule_upright (narrow_by (by_combination ms)) Q f g = by-cond Q (can_combine p s S ms) (pulled S (combining p s S ms)) (pulled-upright Q S (combining p s S ms) (λ x e. combined-upright p (marked_range p (margin_of s) S.marks) S.space (middle S.space) ms x u e))
-  rule_upright (end_by (void_by (by_combination ms))) Q f g = by-cond Q (can_combine p s S ms) (voided (combining p s S ms)) (voided-upright Q (combining p s S ms))
+  rule_upright (narrow_by n) Q f g = by-cond Q (can_narrow p s S n) (pulled S (narrowed_to p s S n)) (pulled-upright Q S (narrowed_to p s S n) (narrow-upright n))
+  rule_upright (end_by (void_by n)) Q f g = by-cond Q (can_narrow p s S n) (voided (narrowed_to p s S n)) (voided-upright Q (narrowed_to p s S n))
   rule_upright (end_by false_form) Q f g = by-when Q (not (may p s S)) closed (λ e. tt)
-  rule_upright (end_by (by_lemma k)) Q f g = by-when Q (lemma_covers lemmas k S) closed (λ e. tt)
-  rule_upright (branch_by (cut_axis axis c)) Q f g = by-when Q (test_axis (strictly_inside c) axis S.space) _
-      (λ e. (changed-upright (lower_part c) (strictly_inside c) (lower-upright c) axis S.space u e, changed-upright (upper_part c) (strictly_inside c) (upper-upright c) axis S.space u e))
-  rule_upright (branch_by (flip_axis axis)) Q f g = by-when Q (test_axis is_undecided axis S.space) _
-      (λ e. (changed-upright (keep false) is_undecided (keep-upright false) axis S.space u e, changed-upright (keep true) is_undecided (keep-upright true) axis S.space u e))
-  rule_upright (branch_by (case_atom j)) Q f g = by-when Q (undecided S j) (two (with_yes S j) (with_no S j)) (λ e. (u, u))
+  rule_upright (end_by (by_lemma i)) Q f g = by-when Q (lemma_covers lemmas i S) closed (λ e. tt)
+  rule_upright (mark_by m) Q f g = by-when Q (can_mark p s lemmas S m) (one (marked S m)) (λ e. mark-upright m)
+  rule_upright (branch_by b) Q f g = by-when Q (can_branch S b) (two (first_child S b) (second_child S b)) (λ e. (first-upright b e, second-upright b e))
   rule_upright (stay_by open_state) Q f g = f refl
   rule_upright (stay_by (stuck_atom j)) Q f g = by-when Q (is_stuck_atom p s S j) stays (g j refl)

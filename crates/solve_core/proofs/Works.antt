@@ -6,7 +6,7 @@ use Rattle.poly_graph.specs.Problem.{Problem}
 use Rattle.poly_graph.specs.ProblemViews.{Parts, problem_of}
 use Rattle.interval_model.specs.Space.{Space, middle}
 use Rattle.cover_model.specs.State.{State, Loosenings, may, sure}
-use Rattle.cover_model.specs.Rules.{Line, by, narrow_by, by_range, by_off_range, by_combination, end_by, void_by, false_form, by_lemma, mark_by, unit_atom, ban_atom, branch_by, cut_axis, flip_axis, case_atom, stay_by, open_state, stuck_atom}
+use Rattle.cover_model.specs.Rules.{Line, narrow_by, end_by, mark_by, branch_by, stay_by}
 use Rattle.cover_model.specs.Honest.{not_shown}
 use Rattle.cover_data.specs.declared.kept.KeptPatch.{KeptPatch}
 use Rattle.cover_data.specs.declared.step.End.{End}
@@ -54,21 +54,11 @@ closed_some None h = absurd (true≢false (sym h))
 closed_some (Some e) h = refl
 
 closing-branch : (l : Line) → IsTrue (is_closing l) → IsTrue (is_branch l) → ⊥
-closing-branch (end_by (void_by (by_range j))) h k = true≢false (sym k)
-closing-branch (end_by (void_by (by_off_range j))) h k = true≢false (sym k)
-closing-branch (narrow_by (by_off_range j)) h k = true≢false (sym h)
-closing-branch (narrow_by (by_combination ms)) h k = true≢false (sym h)
-closing-branch (end_by (void_by (by_combination ms))) h k = true≢false (sym k)
-closing-branch (end_by false_form) h k = true≢false (sym k)
-closing-branch (end_by (by_lemma i)) h k = true≢false (sym k)
-closing-branch (branch_by (cut_axis axis c)) h k = true≢false (sym h)
-closing-branch (branch_by (flip_axis axis)) h k = true≢false (sym h)
-closing-branch (branch_by (case_atom j)) h k = true≢false (sym h)
-closing-branch (narrow_by (by_range j)) h k = true≢false (sym h)
-closing-branch (mark_by (unit_atom j)) h k = true≢false (sym h)
-closing-branch (mark_by (ban_atom j i)) h k = true≢false (sym h)
-closing-branch (stay_by open_state) h k = true≢false (sym h)
-closing-branch (stay_by (stuck_atom j)) h k = true≢false (sym h)
+closing-branch (end_by e) h k = true≢false (sym k)
+closing-branch (narrow_by n) h k = true≢false (sym h)
+closing-branch (mark_by m) h k = true≢false (sym h)
+closing-branch (branch_by b) h k = true≢false (sym h)
+closing-branch (stay_by t) h k = true≢false (sym h)
 
 no-branch : (o : Option Line) → IsTrue (closes o) → IsTrue (ends_in_branch o) → ⊥
 no-branch None h k = true≢false (sym h)

@@ -101,8 +101,9 @@ fn is_said(line: &Line, said: &Said) -> bool {
             && is_number(*place, text),
         (Line::Yes(atoms), Said::Yes(wanted)) => atoms.as_slice() == *wanted,
         (Line::No(atoms), Said::No(wanted)) => atoms.as_slice() == *wanted,
-        (Line::Rule(Rule::Narrow(Narrowing::Combine(pairs))), Said::Combine(wanted)) =>
-            are_pairs(pairs, wanted),
+        (Line::Rule(Rule::Narrow(Narrowing::Combine(pairs))), Said::Combine(wanted)) => are_pairs(
+            pairs, wanted,
+        ),
         (
             Line::Rule(Rule::End(Ending::Void(Narrowing::Combine(pairs)))),
             Said::VoidCombine(wanted),

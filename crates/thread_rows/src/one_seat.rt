@@ -7,7 +7,8 @@ use crate::made::problem;
 use crate::swapped::{ATOMS, OPTIONS, Place, closing, cutting, is_at, is_kept_at, state_at};
 use book_lock::{BookSeat, SharedBook};
 use cover_book::{Book, BookRefusal, BookVerdict, Kids, Learned, Node};
-use cover_data::{End, Margins, Step};
+use cover_data::{Closing, End, Margins, Step};
+use cover_line::{Branching, Marking};
 use dyadic::Dy;
 use poly_graph::Problem;
 use sample_problems::scripts::SWAPPED;
@@ -205,14 +206,14 @@ fn are_halves(alloc: Global, problem: &Problem, nodes: &[Node]) -> bool {
         [Node::Parted(lines, 1), Node::Live(lower), Node::Live(upper)] => {
             lines.steps.as_slice()
                 == [
-                    Step::Unit(0),
-                    Step::Unit(1),
-                    Step::Unit(2),
-                    Step::Unit(3),
-                    Step::Unit(4),
+                    Step::Mark(Marking::Unit(0)),
+                    Step::Mark(Marking::Unit(1)),
+                    Step::Mark(Marking::Unit(2)),
+                    Step::Mark(Marking::Unit(3)),
+                    Step::Mark(Marking::Unit(4)),
                 ]
                 .as_slice()
-                && lines.end == End::Cut(0, Dy::ZERO)
+                && lines.end == End::Part(Branching::Cut(0, Dy::ZERO))
                 && is_kept_at(alloc, problem, lower, Place::Lower)
                 && is_kept_at(alloc, problem, upper, Place::Upper)
         }
@@ -226,7 +227,7 @@ fn is_middle(alloc: Global, problem: &Problem, lemmas: &[Learned]) -> bool {
         [lemma] => {
             is_kept_at(alloc, problem, &lemma.state, Place::Middle)
                 && lemma.lines.steps.is_empty()
-                && lemma.lines.end == End::False
+                && lemma.lines.end == End::Close(Closing::False)
         }
         _ => false,
     }

@@ -1,0 +1,39 @@
+-- Lines of trees that are appended to a text, by their first words and their operands.
+use Rattle.std.specs.Prelude.{◌≡◌, ℕ, ◌<◌, ◌≤◌, List, [], ◌∷◌, ◌++◌, length}
+use Rattle.dyadic.specs.Views.{dyadic_of}
+use Rattle.cover_line.specs.Views.{multipliers_of}
+use Rattle.cover_line.specs.Words.{RuleWord, word_text, Operands, of_nothing, of_atom, of_lemma, of_atom_lemma, of_axis, of_axis_place, of_multipliers}
+use Rattle.cert_read.specs.LineText.{operand_words, AreSpelledOperands}
+use Rattle.cert_text.specs.declared.operands.Operands.{Operands as CodeOperands}
+use Rattle.cert_text.specs.declared.operands.Operands.TheVariants as operands
+
+abbrev pub operands_in : CodeOperands → Operands
+operands_in operands.Nothing = of_nothing
+operands_in (operands.Atom j) = of_atom j
+operands_in (operands.Lemma i) = of_lemma i
+operands_in (operands.AtomLemma j i) = of_atom_lemma j i
+operands_in (operands.Axis axis) = of_axis axis
+operands_in (operands.AxisPlace axis c) = of_axis_place axis (dyadic_of c)
+operands_in (operands.Multipliers pairs) = of_multipliers (multipliers_of pairs.now)
+
+-- each word with a space before it
+abbrev pub after_spaces : List (List ℕ) → List ℕ
+after_spaces [] = []
+after_spaces (w ∷ ws) = 32 ∷ (w ++ after_spaces ws)
+
+-- from 1 to 64 pairs, where they are pairs
+abbrev pub HasFewPairs : Operands → Type 0
+HasFewPairs (of_multipliers ps) = (0 < length ps) × (length ps ≤ 64)
+HasFewPairs o = Unit {0}
+
+-- the new text is the old one and these operands behind it, which can be spelled and are short where they are few
+pub record HasOperands (old : List ℕ) (o : Operands) (new : List ℕ) : Type 0 where
+  pub written : new ≡ old ++ after_spaces (operand_words o)
+  pub spelled : HasFewPairs o → AreSpelledOperands o
+  pub short : HasFewPairs o → length (after_spaces (operand_words o)) ≤ 4864
+
+-- the same with the line's first word and its end
+pub record HasRuled (old : List ℕ) (w : RuleWord) (o : Operands) (new : List ℕ) : Type 0 where
+  pub written : new ≡ old ++ ((word_text w ++ after_spaces (operand_words o)) ++ (10 ∷ []))
+  pub spelled : HasFewPairs o → AreSpelledOperands o
+  pub short : HasFewPairs o → length (after_spaces (operand_words o)) ≤ 4864

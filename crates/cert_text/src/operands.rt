@@ -1,0 +1,77 @@
+// What stands behind the first word of a tree's line.
+ghost use Rattle.std.specs.Prelude.{◌≡◌};
+ghost use Rattle.cover_line.specs.Views.{kind_word, line_of, narrowing_of, voiding_kind_word};
+ghost use Rattle.cover_line.specs.Words.{narrowing_operands, narrowing_word, operands_of, voiding_word};
+ghost use Rattle.cover_data.specs.Views as kept;
+ghost use Rattle.cert_text.specs.Ruled.{HasFewPairs, operands_in};
+
+use cover_data::Narrowing as Kept;
+use cover_line::{Branching, Ending, Marking, Narrowing, NarrowingKind, Rule, Staying};
+use dyadic::Dy;
+
+/// What stands behind the first word of a tree's line. Numbers are those of atoms, lemmas and axes.
+#[derive(Clone, Copy)]
+pub(crate) enum Operands<'a> {
+    Nothing,
+    Atom(u32),
+    Lemma(u32),
+    AtomLemma(u32, u32),
+    Axis(u32),
+    AxisPlace(u32, Dy),
+    /// Atoms, each with its multiplier.
+    Multipliers(&'a [(u32, Dy)]),
+}
+
+fn of_narrowing(narrowing: &Narrowing) -> Operands<'_>
+    ensures { operands_in result ≡ narrowing_operands (narrowing_of narrowing.now) }
+{
+    match narrowing {
+        Narrowing::Pull(atom) => Operands::Atom(*atom),
+        Narrowing::Push(atom) => Operands::Atom(*atom),
+        Narrowing::Combine(pairs) => Operands::Multipliers(pairs),
+    }
+}
+
+/// Those of a rule.
+pub(crate) fn of_rule(rule: &Rule) -> Operands<'_>
+    ensures { operands_in result ≡ operands_of (line_of rule.now) }
+{
+    match rule {
+        Rule::Narrow(narrowing) => of_narrowing(narrowing),
+        Rule::End(Ending::Void(narrowing)) => of_narrowing(narrowing),
+        Rule::End(Ending::False) => Operands::Nothing,
+        Rule::End(Ending::By(lemma)) => Operands::Lemma(*lemma),
+        Rule::Mark(Marking::Unit(atom)) => Operands::Atom(*atom),
+        Rule::Mark(Marking::Ban(atom, lemma)) => Operands::AtomLemma(*atom, *lemma),
+        Rule::Branch(Branching::Cut(axis, at)) => Operands::AxisPlace(*axis, *at),
+        Rule::Branch(Branching::Flip(axis)) => Operands::Axis(*axis),
+        Rule::Branch(Branching::Case(atom)) => Operands::Atom(*atom),
+        Rule::Stay(Staying::Open) => Operands::Nothing,
+        Rule::Stay(Staying::Stuck(atom)) => Operands::Atom(*atom),
+    }
+}
+
+/// Those of a narrowing that a book keeps.
+pub(crate) fn of_kept(narrowing: &Kept) -> Operands<'_>
+    ensures operands { operands_in result
+        ≡ narrowing_operands (kept.narrowing_of narrowing.now) }
+    ensures few { HasFewPairs (operands_in result) }
+{
+    match narrowing {
+        Kept::Pull(atom) => Operands::Atom(*atom),
+        Kept::Push(atom) => Operands::Atom(*atom),
+        Kept::Combine(combination) => Operands::Multipliers(&combination.pairs),
+    }
+}
+
+/// What it narrows by.
+pub(crate) fn kind_of(narrowing: &Kept) -> NarrowingKind
+    ensures narrows { kind_word result ≡ narrowing_word (kept.narrowing_of narrowing.now) }
+    ensures voids { voiding_kind_word result ≡ voiding_word (kept.narrowing_of narrowing.now) }
+{
+    match narrowing {
+        Kept::Pull(_) => NarrowingKind::Pull,
+        Kept::Push(_) => NarrowingKind::Push,
+        Kept::Combine(_) => NarrowingKind::Combine,
+    }
+}
