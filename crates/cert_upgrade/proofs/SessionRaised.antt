@@ -1,11 +1,11 @@
 -- The same of certificates of several checks: what is due under version 5 where something is due under version 3.
-use Rattle.std.proofs.Common.{◌≡◌, ◌≤◌, ℕ, suc, List, [], ◌∷◌, ◌++◌, Bool, true, false, ◌&&◌, cond, Option, Some, None, refl, ap, sym, subst, length, take, nat_eq, nat_le, IsTrue, ◌||◌, eqb→eq, arith, true≢false}
+use Rattle.std.proofs.Common.{◌≡◌, ◌≤◌, ℕ, suc, List, [], ◌∷◌, ◌++◌, Bool, true, false, ◌&&◌, Option, Some, refl, ap, sym, subst, length, take, nat_eq, nat_le, IsTrue, ◌||◌, eqb→eq, arith, true≢false}
 use Rattle.std.specs.Bool.{passes}
 use Rattle.poly_graph.specs.Problem.{Problem}
 use Rattle.cover_model.specs.State.{State, Loosenings}
 use Rattle.cert_read.specs.CertLine.{CertLine, version, checks, cover, keep, point_word, Parsed, too_long, bad_line, bad_number, line, parsed}
-use Rattle.cert_model.specs.Due.{CertFault, BadHeader, KeepFails, Missing, Extra, Value, Due, version_due, margin_due, delta_due, bound_due, kind_due, next_due, axis_due, yes_due, no_due, lemma_due, root_due, tree_due, coordinate_due, end_due, nothing_due, Next, on, faulty, given}
-use Rattle.cert_model.specs.Accepted.{next, most_lemmas, parsed_by, CourseOf, stopped, reached, course_by, course_next, VerdictOf, accepted, refused, cut_off}
+use Rattle.cert_model.specs.Due.{CertFault, BadHeader, KeepFails, Extra, Value, Due, version_due, margin_due, delta_due, bound_due, kind_due, next_due, axis_due, yes_due, no_due, lemma_due, root_due, tree_due, coordinate_due, end_due, nothing_due, Next, on, faulty, given}
+use Rattle.cert_model.specs.Accepted.{next, most_lemmas, stopped, reached, course_by, course_next, accepted, refused, cut_off}
 use Rattle.cert_model.specs.Session.{Part, SessionDue, header_due, checks_due, part_due, keep_due, first_due, inside_due, all_done, SessionNext, is_session_version, first_part, next_part, in_header, inside, in_part, none_complete, session_next, session_step, session_start, SessionCourse, session_course, SessionVerdict, session_at_end, session_ended}
 use Rattle.cert_model.proofs.Invariant.{IfOn}
 use Rattle.cert_model.proofs.Header.{Fits, FitsDue, next_fits}

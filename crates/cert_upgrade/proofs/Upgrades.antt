@@ -8,8 +8,11 @@ use Rattle.cert_read.proofs.Pieces.{lines_of_text}
 use Rattle.cert_model.specs.Due.{Value, version_due}
 use Rattle.cert_model.specs.Accepted.{Verdict, accepted, refused, course, ended, verdict, verdict_of, verdict_by, IsAccepted, most_bytes}
 use Rattle.cert_model.specs.Session.{SessionVerdict, session_course, session_ended, one_verdict, AreAccepted}
+use Rattle.cert_model.specs.Least.{GoalValue, GoalVerdict, goal_course, goal_ended, IsGoalAccepted}
 use Rattle.cert_upgrade.specs.Upgraded.{upgraded, newest_line, behind_first}
 use Rattle.cert_upgrade.proofs.Breaks.{lines_lack}
+use Rattle.cert_upgrade.proofs.GoalRaised
+use Rattle.cert_upgrade.proofs.GoalRaised.{RaisesValue}
 use Rattle.cert_upgrade.proofs.Raised.{RaisesVerdict, lines_raise, cut_raises}
 use Rattle.cert_upgrade.proofs.SessionRaised
 use Rattle.cert_upgrade.proofs.SessionRaised.{RaisesValues}
@@ -64,3 +67,21 @@ pub upgraded_is_accepted : (ps : List (Problem × Bool)) (b : Option ℕ) (bytes
 upgraded_is_accepted [] b bytes s values e h = cc
 upgraded_is_accepted ((p, f) ∷ []) b bytes s values e h = one-accepted p b bytes h s values (verdict p b bytes) refl e
 upgraded_is_accepted ((p, f) ∷ next ∷ later) b bytes s values e h = several-accepted p (next ∷ later) b bytes s values e h
+
+-- ---- of a script with a goal
+
+module _ (p : Problem) (g : ℕ) (room : Bool) (b : Option ℕ) where
+  abbrev goal_verdict_if : Bool → List ℕ → GoalVerdict
+  goal_verdict_if few bytes = verdict_of (goal_course p g room b) goal_ended few bytes
+
+  goal-raises : (t : Bool) (bytes : List ℕ) → RaisesValue p g room b (goal_verdict_if t bytes) (goal_verdict_if true (upgraded bytes))
+  goal-raises true bytes =
+      subst (λ (ls : List (List ℕ)). RaisesValue p g room b (goal_verdict_if true bytes) (goal_ended (goal_course p g room b ls)))
+      (sym (upgraded-lines bytes)) (GoalRaised.lines_raise p g room b (lines_of bytes))
+  goal-raises false bytes = GoalRaised.cut_raises p g room b (goal_course p g room b (lines_so_far (take most_bytes bytes))) (goal_verdict_if true (upgraded bytes))
+
+  pub upgraded_is_accepted_of_goal : (bytes : List ℕ) (s : Loosenings) (v : GoalValue) → IsGoalAccepted p g room b bytes s v → length (upgraded bytes) ≤ most_bytes →
+      IsGoalAccepted p g room b (upgraded bytes) (in_version 5 s) v
+  upgraded_is_accepted_of_goal bytes s v e h =
+      ap (λ (t : Bool). goal_verdict_if t (upgraded bytes)) (le-leb (length (upgraded bytes)) most_bytes h)
+      ∙ subst (λ (w : GoalVerdict). RaisesValue p g room b w (goal_verdict_if true (upgraded bytes))) e (goal-raises (nat_le (length bytes) most_bytes) bytes)

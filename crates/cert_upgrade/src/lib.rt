@@ -6,7 +6,7 @@
 
 ghost use Rattle.std.specs.Prelude.{◌≡◌, ◌≤◌, ◌++◌, ◌∷◌, [], IfOk, cond, length};
 ghost use Rattle.cert_model.specs.Accepted.{most_bytes};
-ghost use Rattle.cert_upgrade.specs.Upgraded.{upgraded, UpgradedIsAccepted};
+ghost use Rattle.cert_upgrade.specs.Upgraded.{upgraded, UpgradedIsAccepted, UpgradedIsAcceptedOfGoal};
 ghost use Rattle.cert_upgrade.specs.Breaks.{behind_break, with_break};
 
 use std::alloc::{AllocError, Global};
@@ -17,6 +17,11 @@ const FIRST_LINE: &[u8] = b"dpoly 5\n";
 /// A certificate that is accepted is accepted in the newest version, with the same values.
 pub fn upgraded_is_accepted()
     ensures { UpgradedIsAccepted }
+{}
+
+/// One of a script with a goal, of its check or its least value, is accepted so, too.
+pub fn upgraded_is_accepted_of_goal()
+    ensures { UpgradedIsAcceptedOfGoal }
 {}
 
 // What follows the first line break.
