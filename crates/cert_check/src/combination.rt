@@ -88,6 +88,14 @@ fn are_combinable(problem: &Problem, state: &State, pairs: &[(u32, Dy)]) -> bool
     true
 }
 
+// Whether these are pairs in order, one or more, and no more than the version has.
+fn is_combination(s: Loosenings, pairs: &[(u32, Dy)]) -> bool
+    ensures { result ≡ is_combination (loosenings_of s) (multipliers_of pairs.now) }
+{
+    let most = most_pairs(s);
+    !pairs.is_empty() && pairs.len() <= most && are_ordered(pairs)
+}
+
 /// Whether the atoms may be combined at the state.
 pub fn can_combine(problem: &Problem, s: Loosenings, state: &State, pairs: &[(u32, Dy)]) -> bool
     requires fits { Fits problem.now (state_of state.now) }
@@ -95,9 +103,5 @@ pub fn can_combine(problem: &Problem, s: Loosenings, state: &State, pairs: &[(u3
     ensures { result ≡ can_combine (problem_of problem.now) (loosenings_of s)
         (state_of state.now) (multipliers_of pairs.now) }
 {
-    2 <= s.version
-        && !pairs.is_empty()
-        && pairs.len() <= most_pairs(s)
-        && are_ordered(pairs)
-        && are_combinable(problem, state, pairs)
+    2 <= s.version && is_combination(s, pairs) && are_combinable(problem, state, pairs)
 }
