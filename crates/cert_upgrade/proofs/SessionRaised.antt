@@ -105,6 +105,7 @@ session-early v h = by (nat_eq v 3) refl (nat_eq v 5) refl h
   where
     is : (n : ℕ) → nat_eq v n ≡ true → v ≡ n
     is n e = eqb→eq v n (passes _ e)
+
     by : (t : Bool) → nat_eq v 3 ≡ t → (u : Bool) → nat_eq v 5 ≡ u → IsTrue (t || u) → v ≤ 5
     by true e u f h = let k = is 3 e in omega (arith, k)
     by false e true f h = let k = is 5 f in omega (arith, k)
