@@ -36,7 +36,7 @@ pub enum Narrower<'a> {
     Combine(&'a [(u32, Dy)]),
 }
 
-/// Whether the marks of the state allow it.
+/// Whether the version and the marks of the state allow it.
 pub fn may_narrow(problem: &Problem, margins: &Margins, state: &State, by: Narrower) -> bool
     requires state { FitsProblem (problem_of problem.now) state.now }
     requires atom { NamesAtom problem.now by }
@@ -45,7 +45,7 @@ pub fn may_narrow(problem: &Problem, margins: &Margins, state: &State, by: Narro
 {
     match by {
         Narrower::Pull(j) => state.is_yes(j),
-        Narrower::Push(j) => is_no_one_sided(problem, state, j),
+        Narrower::Push(j) => margins.version >= 2 && is_no_one_sided(problem, state, j),
         Narrower::Combine(multipliers) => can_combine(problem, margins, state, multipliers),
     }
 }
