@@ -113,12 +113,6 @@ at_once_problem lemmas P Q ended.Parted a = absurd a
 at_once_problem lemmas P Q (ended.Found x) a = absurd a
 at_once_problem lemmas P Q (ended.Shown x) a = ap (λ (X : PatchModel). X.problem) a.0
 
-pub margins_are : (m : Margins) (o : Options) → m.delta_bits ≡ o.delta_bits → m.margin_bits ≡ o.margin_bits → m.least_bits ≡ o.least_bits → m ≡ margins_of o
-margins_are m o e f g =
-    subst (λ (k : ℕ). m ≡ record { delta_bits = o.delta_bits; margin_bits = o.margin_bits; least_bits = k }) g
-    (subst (λ (k : ℕ). m ≡ record { delta_bits = o.delta_bits; margin_bits = k; least_bits = m.least_bits }) f
-    (subst (λ (k : ℕ). m ≡ record { delta_bits = k; margin_bits = m.margin_bits; least_bits = m.least_bits }) e refl))
-
 module _ (q : Parts) (m : Margins) (lemmas : List LemmaModel) (S : State) where
   abbrev can : Bool
   can = may (problem_of q) (loosenings_of m) S

@@ -1,5 +1,6 @@
 // The loosenings, the least width and the version of the format, and what a search is asked for.
 ghost use Rattle.std.specs.Prelude.{◌≡◌};
+ghost use Rattle.cover_data.specs.Margins.{margins_of, options_in};
 
 /// Numbers of bits: points are shown at 2 to the power of minus `delta_bits`, boxes are pruned at
 /// minus `margin_bits`, and no axis of a side of at most minus `least_bits` is cut. The lines are those of a
@@ -26,12 +27,18 @@ pub struct Options {
 }
 
 impl Options {
+    /// The same in another version.
+    pub fn in_version(&self, version: u32) -> Options
+        ensures { result ≡ options_in version self.now }
+    {
+        let mut options = *self;
+        options.version = version;
+        options
+    }
+
     /// The margins.
     pub fn margins(&self) -> Margins
-        ensures delta { result.delta_bits ≡ self.now.delta_bits }
-        ensures margin { result.margin_bits ≡ self.now.margin_bits }
-        ensures least { result.least_bits ≡ self.now.least_bits }
-        ensures version { result.version ≡ self.now.version }
+        ensures { result ≡ margins_of self.now }
     {
         Margins {
             delta_bits: self.delta_bits,

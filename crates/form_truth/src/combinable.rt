@@ -5,9 +5,10 @@ ghost use Rattle.interval_model.specs.Interval.{misses_nought};
 ghost use Rattle.dyadic.specs.Views.{dyadic_of};
 ghost use Rattle.poly_graph.specs.ProblemViews.{problem_of};
 ghost use Rattle.cover_model.specs.Combination.{only};
-ghost use Rattle.cover_model.specs.State.{Loosenings, in_version, state_of, in_yes};
-ghost use Rattle.cover_model.specs.Rules.{are_ordered, most_pairs, is_combination, are_combinable, can_combine, in_no_one_sided};
+ghost use Rattle.cover_model.specs.State.{state_of, in_yes};
+ghost use Rattle.cover_model.specs.Rules.{are_ordered, has_version_2, most_pairs, is_combination, are_combinable, can_combine, in_no_one_sided};
 ghost use Rattle.cover_model.specs.Views.{multipliers_of};
+ghost use Rattle.form_truth.specs.Versions.{at_version};
 
 use cover_model::is_one_sided;
 use dyadic::Dy;
@@ -15,7 +16,7 @@ use poly_graph::{Lits, Mark, Problem};
 
 // The most pairs of a combination in this version of the format.
 fn most_pairs(version: u32) -> usize
-    ensures { (s : Loosenings) → result ≡ most_pairs (in_version version s) }
+    ensures { result ≡ most_pairs (at_version version) }
 {
     if version >= 5 { 512 } else { 64 }
 }
@@ -59,11 +60,19 @@ fn are_ordered(multipliers: &[(u32, Dy)]) -> bool
 
 // Whether these are pairs in order, one or more, and no more than this version allows.
 fn is_combination(multipliers: &[(u32, Dy)], version: u32) -> bool
-    ensures { (s : Loosenings) →
-        result ≡ is_combination (in_version version s) (multipliers_of multipliers.now) }
+    ensures { result ≡ is_combination (at_version version) (multipliers_of multipliers.now) }
 {
     let count = multipliers.len();
-    0 < count && count <= most_pairs(version) && are_ordered(multipliers)
+    let most = most_pairs(version);
+    0 < count && count <= most && are_ordered(multipliers)
+}
+
+// Whether this version has combinations, and these are the pairs of one.
+fn has_combination(multipliers: &[(u32, Dy)], version: u32) -> bool
+    ensures { let s = at_version version in
+        result ≡ (has_version_2 s && is_combination s (multipliers_of multipliers.now)) }
+{
+    version >= 2 && is_combination(multipliers, version)
 }
 
 // Whether the atom is there, and is marked yes, or is marked no and an inequality.
@@ -108,11 +117,9 @@ pub fn can_combine(
     version: u32,
 ) -> bool
     requires { length lits.now ≡ length problem.now.atoms }
-    ensures { (s : Loosenings) (space : Domains) → let ms = multipliers_of multipliers.now in
-        result ≡ can_combine (problem_of problem.now) (in_version version s)
+    ensures { (space : Domains) → let ms = multipliers_of multipliers.now in
+        result ≡ can_combine (problem_of problem.now) (at_version version)
         (state_of space lits.now) ms }
 {
-    version >= 2
-        && is_combination(multipliers, version)
-        && are_combinable(problem, lits, multipliers)
+    has_combination(multipliers, version) && are_combinable(problem, lits, multipliers)
 }

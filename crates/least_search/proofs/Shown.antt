@@ -86,6 +86,3 @@ point_of a r l b s x e =
     (margins_of b.options) (margins_of a.options.now) s.margins x (book-shows b s.book x e)
 
 -- ---- margins
-
-pub margins_are : (m : Margins) (o : Options) → m.delta_bits ≡ o.delta_bits → m.margin_bits ≡ o.margin_bits → m.least_bits ≡ o.least_bits → m ≡ margins_of o
-margins_are m o e f g = λ i. record { delta_bits = e i; margin_bits = f i; least_bits = g i }
