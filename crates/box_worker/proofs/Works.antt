@@ -11,7 +11,6 @@ use Rattle.cover_model.specs.Rules.{Line, make_false, narrow_by, end_by, mark_by
 use Rattle.cover_model.specs.Fits.{IsShownAt}
 use Rattle.poly_graph.proofs.Bools.{not_both}
 use Rattle.cover_data.specs.declared.margins.Margins.{Margins}
-use Rattle.cover_data.specs.declared.margins.Options.{Options}
 use Rattle.cover_data.specs.Margins.{loosenings_of}
 use Rattle.cover_data.specs.Models.{LemmaModel, KeptModel}
 use Rattle.cover_rule.specs.Models.{PatchModel}
@@ -26,7 +25,7 @@ use Rattle.box_worker.specs.declared.worked.Worked.{Worked}
 use Rattle.box_worker.specs.declared.worked.Worked.TheVariants.{Patch, Closed, Point}
 use Rattle.box_worker.specs.Attempts.{AreAmong}
 use Rattle.box_worker.specs.Ended.{first_covering, leaves_some, is_left, AtOnce, ComesToEnd}
-use Rattle.box_worker.specs.Worked.{margins_of, IsRunFrom, IsLearned, IsMiddleFrom, IsWork, IsClosedBy, IsPointAt, IsLeftOpen, AnswersAtOnce, IsEndPoint, WorkOf, teaches_nothing}
+use Rattle.box_worker.specs.Worked.{IsRunFrom, IsLearned, IsMiddleFrom, IsWork, IsClosedBy, IsPointAt, IsLeftOpen, AnswersAtOnce, IsEndPoint, WorkOf, teaches_nothing}
 use Rattle.box_worker.proofs.Open.{none_among}
 
 -- ---- the first lemma that covers

@@ -319,13 +319,11 @@ impl Book {
         })
     }
 
-    /// The same book, to which a search goes on in version 5 of the format.
-    pub fn raise(self) -> Book
-        ensures { result ≡ raised self }
+    /// Goes over to version 5 of the format.
+    pub fn raise(&mut self)
+        ensures { self.new ≡ raised self.old }
     {
-        let mut book = self;
-        book.options.version = 5;
-        book
+        self.options.version = 5;
     }
 
     /// The states of all its lemmas, by number: those that it opened with, and those that were learned.

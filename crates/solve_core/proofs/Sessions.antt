@@ -11,14 +11,16 @@ use Rattle.cover_data.specs.declared.margins.Options.{Options}
 use Rattle.cert_model.specs.SessionLaws.{GoOn, IsSession}
 use Rattle.cover_book.specs.Keeps.{IsBook}
 use Rattle.cover_book.specs.Limits.{IsWithinLimits}
-use Rattle.cover_book.specs.Model.{BookModel, IsOfRoot, opening_with, kept_from}
+use Rattle.cover_book.specs.Model.{BookModel, IsOfRoot, opening_with, kept_from, raised}
 use Rattle.cover_book.specs.Session.{next_kept, AreBooksOf}
 use Rattle.cover_book.specs.Verdict.{verdict_of}
 use Rattle.cover_book.specs.declared.verdict.BookVerdict.TheVariants as verdict
 use Rattle.cover_book.specs.Left.{LeavesDue}
-use Rattle.solve_core.specs.Reaches.{Reaches}
-use Rattle.solve_core.specs.Solved.{IsSolved, IsCheckWithin, IsProblemAt, IsNextBook}
-use Rattle.solve_core.proofs.Reached.{reaches_same}
+use Rattle.solve_core.specs.Reaches.{IsSearched}
+use Rattle.solve_core.specs.Solved.{IsSolved, IsCheckWithin, IsProblemAt}
+use Rattle.cover_data.specs.Margins.{options_in}
+use Rattle.cover_book.proofs.Raised.{raised_is_book}
+use Rattle.solve_core.proofs.Reached.{searched_same, searched_raised}
 
 abbrev Check : Type 0
 Check = Parts × Bool
@@ -110,12 +112,13 @@ one-more o kept ((q', e') ∷ (q'', e'') ∷ ps) (c ∷ d ∷ books) last b q e 
     (h.0, h.1, h.2, h.3, h.4, one-more o (cond e'' (kept_from c q'') []) ((q'', e'') ∷ ps) (d ∷ books) last b q e h.5 i (omega (arith, n)) at w p r k t)
 
 -- the book of the next check behind those of the first ones
-pub next_book : (o : Options) (ps : List Check) (i : ℕ) (books : List BookModel) (last b : BookModel) → AreBooksOf o [] (take (suc i) ps) books → suc i ≤ length ps → slice_get books i ≡ Some last → last.options ≡ o → IsNextBook ps i last b →
+next-book : (o : Options) (ps : List Check) (i : ℕ) (books : List BookModel) (last b : BookModel) (e : Bool) → AreBooksOf o [] (take (suc i) ps) books → suc i ≤ length ps → slice_get books i ≡ Some last →
+    slice_get ps (suc i) ≡ Some (b.problem, e) → IsBook b → b.options ≡ o → b.kept ≡ cond e (kept_from last b.problem) [] → IsOfRoot b →
     AreBooksOf o [] (take (suc (suc i)) ps) (books ++ (b ∷ []))
-next_book o ps i books last b h m at same x =
+next-book o ps i books last b e h m at check w same kept root =
     let n : suc i ≡ length books = sym (first_count o ps (suc i) books h m) in
-    subst (λ (qs : List Check). AreBooksOf o [] qs (books ++ (b ∷ []))) (take_next ps (suc i) (b.problem, x.goes_on) x.check)
-    (one-more o [] (take (suc i) ps) books last b b.problem x.goes_on h i n at x.book refl (x.options ∙ same) x.kept x.root)
+    subst (λ (qs : List Check). AreBooksOf o [] qs (books ++ (b ∷ []))) (take_next ps (suc i) (b.problem, e) check)
+    (one-more o [] (take (suc i) ps) books last b b.problem e h i n at w refl same kept root)
 
 pub first_book : (o : Options) (ps : List Check) (b : BookModel) → IsProblemAt ps zero b.problem → IsBook b → b.options ≡ o → b.kept ≡ [] → IsOfRoot b → AreBooksOf o [] (take 1 ps) (b ∷ [])
 first_book o [] b at w e k t = let f = at.1 in cc
@@ -125,16 +128,40 @@ first_book o (c ∷ ps) b at w e k t = let q : (b.problem, at.0) ≡ c = let f =
 
 -- a book that opened in the root state is one of the whole box
 pub of_root : (b : BookModel) → IsSolved b → IsOfRoot b
-of_root b s = (reaches_same s.reached).3
+of_root b s = (searched_same s.searched).3
 
-pub solved_from : (c b : BookModel) (p : Parts) (o : Options) (kept : List State) → c ≡ opening_with p o kept → Reaches c b → (verdict_of b ≡ verdict.NotYet → ⊥) → LeavesDue b → IsSolved b
+pub solved_from : (c b : BookModel) (p : Parts) (o : Options) (kept : List State) → c ≡ opening_with p o kept → IsSearched c b → (verdict_of b ≡ verdict.NotYet → ⊥) → LeavesDue b → IsSolved b
 solved_from c b p o kept e r v l =
-    let from : Reaches (opening_with p o kept) b = subst (λ (d : BookModel). Reaches d b) e r in
-    let same = reaches_same from in record {
-      reached = subst (λ (q : Parts). Reaches (opening_with q b.options b.kept) b) (sym same.0) (subst (λ (x : Options). Reaches (opening_with p x b.kept) b) (sym same.1) (subst (λ (xs : List State). Reaches (opening_with p o xs) b) (sym same.2) from));
+    let from : IsSearched (opening_with p o kept) b = subst (λ (d : BookModel). IsSearched d b) e r in
+    let same = searched_same from in
+    let options : o ≡ options_in o.version b.options = sym (ap (options_in o.version) same.1) in record {
+      first = o.version;
+      searched = subst (λ (q : Parts). IsSearched (opening_with q (options_in o.version b.options) b.kept) b) (sym same.0) (subst (λ (x : Options). IsSearched (opening_with p x b.kept) b) options (subst (λ (xs : List State). IsSearched (opening_with p o xs) b) (sym same.2) from));
       verdict = v;
       left = l;
     }
+
+-- ---- books that go over to version 5
+
+pub raised_solved : (b : BookModel) → IsSolved b → IsSolved (raised b)
+raised_solved b s = record {
+  first = s.first;
+  searched = searched_raised s.searched;
+  verdict = s.verdict;
+  left = λ e n S l. let x = s.left e n S l in record { not_shown = x.not_shown; spent = x.spent };
+}
+
+next-kept : (b : BookModel) (later : List Check) → next_kept (raised b) later ≡ next_kept b later
+next-kept b [] = refl
+next-kept b (c ∷ later) = refl
+
+pub raised_books : (o : Options) (kept : List State) (ps : List Check) (books : List BookModel) → AreBooksOf o kept ps books → AreBooksOf (options_in 5 o) kept ps (map raised books)
+raised_books o kept [] [] h = tt
+raised_books o kept [] (c ∷ books) h = elim h [ ]
+raised_books o kept ((q, f) ∷ ps) [] h = elim h [ ]
+raised_books o kept ((q, f) ∷ ps) (c ∷ books) h =
+    (raised_is_book c h.0, h.1, ap (options_in 5) h.2, h.3, h.4,
+    subst (λ (xs : List State). AreBooksOf (options_in 5 o) xs ps (map raised books)) (sym (next-kept c ps)) (raised_books o (next_kept c ps) ps books h.5))
 
 -- what four facts of an answer give
 pub ok_by : {X E : Type 0} (A B C D F : X → Type 0) (r : Result X E) → ((x : X) → A x → B x → C x → D x → F x) → IfOk r A → IfOk r B → IfOk r C → IfOk r D → IfOk r F
