@@ -1,8 +1,8 @@
 -- Cuts of axes at their middle.
-use Rattle.std.proofs.Common.{◌≡◌, ◌⊎◌, inl, inr, ℕ, zero, suc, ◌+◌, ◌<◌, [], ◌∷◌, length, get_or, Bool, true, false, cond, not, ◌&&◌, ◌||◌, IsTrue, Option, Some, None, refl, sym, ap, ap₂, ◌∙◌, subst, arith, true≢false, eq-eqb}
+use Rattle.std.proofs.Common.{◌≡◌, ◌⊎◌, inl, inr, ℕ, zero, suc, ◌+◌, ◌<◌, ◌≤◌, [], ◌∷◌, length, get_or, Bool, true, false, cond, not, ◌&&◌, ◌||◌, IsTrue, Option, Some, None, refl, sym, ap, ap₂, ◌∙◌, subst, arith, true≢false, eq-eqb}
 use Rattle.std.specs.Prelude.{nat_eq}
 use Rattle.std.proofs.lemmas.List.{get_or_default}
-use Rattle.std.proofs.lemmas.Bool.{eqb-true}
+use Rattle.std.proofs.lemmas.Bool.{eqb-true, leb-true, le-leb}
 use Rattle.dyadic.specs.Fraction.{Fraction, zero_fraction, at_most, difference_of}
 use Rattle.dyadic.specs.Rounding.{Dyadic, exact, two_to_minus, mid}
 use Rattle.interval_model.specs.Space.{Domain, real_domain, bool_domain, Space, strictly_inside, can_be_halved, side, better, widest_from, widest, test_axis}
@@ -149,10 +149,7 @@ found_below space axis a = let r = found-by space axis (widest space) refl a in 
 
 real-side : (d : Domain) (v : Fraction) → side d ≡ Some v → (l : Dyadic) × (h : Dyadic) × (d ≡ real_domain l h) × IsTrue (can_be_halved (real_domain l h))
 real-side (bool_domain f t) v e = cc
-real-side (real_domain l h) v e = (l, h, refl, side-can axis v (real_domain l h) e)
-  where
-    axis : ℕ
-    axis = 0
+real-side (real_domain l h) v e = (l, h, refl, side-can 0 v (real_domain l h) e)
 
 -- it can be cut
 pub widest_cuts : (space : Space) (axis : ℕ) → axis_of (widest space) ≡ Some axis → (l : Dyadic) × (h : Dyadic) × CutsAt space axis l h
@@ -170,6 +167,25 @@ wide_may w s axis space l h c a k =
     let wide : Bool = not (at_most (difference_of (exact h) (exact l)) (exact (two_to_minus w))) in
     let x = both_true wide (has_version_5 second || is_widest axis space) (sym (c.may w second) ∙ k) in
     c.may w s ∙ both_pass wide (has_version_5 s || is_widest axis space) x.0 (or_second (has_version_5 s) (is_widest axis space) (ap (is_axis axis) a ∙ eq-eqb axis axis refl))
+
+-- ---- where it may be cut
+
+module _ (w : ℕ) (s : Loosenings) {axis : ℕ} {space : Space} {l h : Dyadic} (c : CutsAt space axis l h) where
+  abbrev small : Bool
+  small = at_most (difference_of (exact h) (exact l)) (exact (two_to_minus w))
+
+  pub not_where_small : small ≡ true → false ≡ may_be_cut w s axis space
+  not_where_small e = sym (c.may w s ∙ ap (λ (t : Bool). not t && (has_version_5 s || is_widest axis space)) e)
+
+  pub always_in_5 : small ≡ false → 5 ≤ s.version → true ≡ may_be_cut w s axis space
+  always_in_5 e v = sym (c.may w s ∙ ap₂ (λ (t : Bool) (u : Bool). not t && (u || is_widest axis space)) e (le-leb 5 s.version v))
+
+  pub widest_before_5 : small ≡ false → s.version < 5 → is_widest axis space ≡ may_be_cut w s axis space
+  widest_before_5 e v = sym (c.may w s ∙ ap₂ (λ (t : Bool) (u : Bool). not t && (u || is_widest axis space)) e (not-5 (has_version_5 s) refl))
+    where
+      not-5 : (t : Bool) → has_version_5 s ≡ t → has_version_5 s ≡ false
+      not-5 true f = let k : 5 ≤ s.version = leb-true 5 s.version f in absurd (omega (arith, k, v))
+      not-5 false f = f
 
 -- ---- no cut
 

@@ -270,8 +270,13 @@ fn may_be_cut(space: &Space, margins: &Margins, axis: u32, range: Range) -> bool
     ensures { let s = loosenings_of margins.now in
         result ≡ may_be_cut margins.now.least_bits s axis (space_of space.now) }
 {
-    !has_small_side(range, margins.least_bits)
-        && (margins.version >= 5 || is_widest(space, axis))
+    if has_small_side(range, margins.least_bits) {
+        return false;
+    }
+    if margins.version >= 5 {
+        return true;
+    }
+    is_widest(space, axis)
 }
 
 /// Ends the patch by cutting the axis at its middle.

@@ -1,5 +1,5 @@
 use Rattle.solve_core.specs.Reaches.{stays}
-use Rattle.solve_core.proofs.run.work_if_few.Goals as goal
+use Rattle.solve_core.proofs.run.work_until.Goals as goal
 
-pub returns-else-len-lt-ENOUGH-clause-reached : goal.returns-else-len-lt-ENOUGH-clause-reached
-returns-else-len-lt-ENOUGH-clause-reached g c = stays
+pub returns-then-is_time-clause-reached : goal.returns-then-is_time-clause-reached
+returns-then-is_time-clause-reached g c = stays
