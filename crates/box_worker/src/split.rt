@@ -3,12 +3,11 @@ ghost use Rattle.std.specs.Prelude.{◌≡◌, IfOk, IsTrue, true, false, None};
 ghost use Rattle.box_worker.specs.Attempts.{Continues};
 ghost use Rattle.box_worker.specs.Ended.{is_left};
 
-use crate::attempt;
-use crate::axis;
 use crate::choice::{Choice, choose, is_open};
 use crate::heuristics::Heuristics;
 use crate::needs::Needs;
 use crate::worth::worths;
+use crate::{attempt, axis};
 use cover_rule::Patch;
 use std::alloc::{AllocError, Global};
 

@@ -217,6 +217,7 @@ half-inside (real_domain l h) c e = inside (can_be_halved (real_domain l h)) ref
   where
     same-some : (a b : Dyadic) → Some a ≡ Some b → a ≡ b
     same-some a b q = cc
+
     inside : (t : Bool) → can_be_halved (real_domain l h) ≡ t → cond t (Some (mid l h)) None ≡ Some c → IsTrue (strictly_inside c (real_domain l h))
     inside true k q = subst (λ (x : Dyadic). IsTrue (strictly_inside x (real_domain l h))) (same-some (mid l h) c q) k
     inside false k q = cc
@@ -237,6 +238,7 @@ cut_is axis space l e = by-half (half_at axis space) refl e
   where
     same-line : (a b : Line) → Some a ≡ Some b → b ≡ a
     same-line a b r = cc
+
     by-half : (o : Option Dyadic) → half_at axis space ≡ o → cut_of axis o ≡ Some l → IsCut axis space l
     by-half None k q = cc
     by-half (Some c) k q = record { at = c; is = same-line (cut axis c) l q; can = half-at-inside axis space c k }

@@ -110,12 +110,7 @@ fn are_combinable(problem: &Problem, lits: &Lits, multipliers: &[(u32, Dy)]) -> 
 
 /// Whether these atoms with their multipliers may be combined at a state with these marks, in this version of the
 /// format.
-pub fn can_combine(
-    problem: &Problem,
-    lits: &Lits,
-    multipliers: &[(u32, Dy)],
-    version: u32,
-) -> bool
+pub fn can_combine(problem: &Problem, lits: &Lits, multipliers: &[(u32, Dy)], version: u32) -> bool
     requires { length lits.now ≡ length problem.now.atoms }
     ensures { (space : Domains) → let ms = multipliers_of multipliers.now in
         result ≡ can_combine (problem_of problem.now) (at_version version)

@@ -7,6 +7,8 @@ use Rattle.cover_book.specs.declared.calls.Call.{Call}
 use Rattle.cover_book.specs.declared.calls.Reply.{Reply}
 use Rattle.cover_book.specs.Model.{BookModel, raised}
 use Rattle.cover_book.specs.Steps.{MayBeCalled, BookStep}
+use Rattle.cover_book.specs.Limits.{IsWithinLimits}
+use Rattle.poly_graph.specs.ProblemViews.{Parts}
 use Rattle.cover_book.proofs.Grown.{step_keeps_problem}
 use Rattle.solve_core.specs.Reaches.{Reaches, stays, calls, IsSearched, in_one_version, in_two_versions}
 use Rattle.solve_core.specs.Solved.{IsInVersionOf}
@@ -60,3 +62,19 @@ module _ (o : Options) (book : BookModel) (same : book.options ≡ options_in bo
 
 pub is_version_5 : (m : Margins) → AreMargins m → 5 ≤ m.version → m.version ≡ 5
 is_version_5 m h k = elim h.version_is [ inl e ↦ absurd (omega (arith, e, k)) | inr e ↦ e ]
+
+-- the limits do not depend on the version
+pub limits_in_2 : (p : Parts) (o : Options) → IsWithinLimits p o → IsWithinLimits p (options_in 2 o)
+limits_in_2 p o h = record {
+  margins = record {
+    some_delta = h.margins.some_delta;
+    few_delta = h.margins.few_delta;
+    above_delta = h.margins.above_delta;
+    few_margin = h.margins.few_margin;
+    few_least = h.margins.few_least;
+    version_is = inl refl;
+  };
+  budget = h.budget;
+  axes = h.axes;
+  atoms = h.atoms;
+}

@@ -159,9 +159,14 @@ pub raised_books : (o : Options) (kept : List State) (ps : List Check) (books : 
 raised_books o kept [] [] h = tt
 raised_books o kept [] (c ∷ books) h = elim h [ ]
 raised_books o kept ((q, f) ∷ ps) [] h = elim h [ ]
-raised_books o kept ((q, f) ∷ ps) (c ∷ books) h =
-    (raised_is_book c h.0, h.1, ap (options_in 5) h.2, h.3, h.4,
-    subst (λ (xs : List State). AreBooksOf (options_in 5 o) xs ps (map raised books)) (sym (next-kept c ps)) (raised_books o (next_kept c ps) ps books h.5))
+raised_books o kept ((q, f) ∷ ps) (c ∷ books) h = (
+  raised_is_book c h.0,
+  h.1,
+  ap (options_in 5) h.2,
+  h.3,
+  h.4,
+  subst (λ (xs : List State). AreBooksOf (options_in 5 o) xs ps (map raised books)) (sym (next-kept c ps)) (raised_books o (next_kept c ps) ps books h.5),
+)
 
 -- what four facts of an answer give
 pub ok_by : {X E : Type 0} (A B C D F : X → Type 0) (r : Result X E) → ((x : X) → A x → B x → C x → D x → F x) → IfOk r A → IfOk r B → IfOk r C → IfOk r D → IfOk r F

@@ -251,6 +251,13 @@ fn has_choice_of_axis(problem: &Problem) -> bool {
     false
 }
 
+// Whether the search on the book may go over to version 5, and there is something to be chosen then.
+fn may_go_over(book: &Book, problem: &Problem, options: &Options) -> bool
+    ensures { result ≡ true → 5 ≤ options.now.version }
+{
+    book.options().version < 5 && options.version >= 5 && has_choice_of_axis(problem)
+}
+
 // The same book in version 5.
 fn raised(book: Book) -> Book
     ensures { result ≡ raised book }
@@ -279,8 +286,8 @@ fn search_in_versions<R: Threads + Wait + Sync, G: Gate + Sync>(
     ensures left { IfOk result (λ b. LeavesDue b) }
     ensures book { IfOk result (λ b. IsBook b) }
 {
-    let own = *book.options();
-    if own.version >= 5 || options.version < 5 || !has_choice_of_axis(problem) {
+    if !may_go_over(&book, problem, options) {
+        let own = *book.options();
         return search_from(rt, alloc, book, problem, &own, gate);
     }
     let begun = start(alloc, book, problem, Until::Branches(FIRST_BRANCHES), gate)?;
