@@ -2,7 +2,7 @@
 use Rattle.std.proofs.Common.{◌≡◌, inl, inr, ℕ, suc, ◌<◌, [], ◌∷◌, length, Bool, true, false, cond, not, ◌&&◌, IsTrue, Option, Some, None, refl, sym, ap, ◌∙◌, subst, arith, true≢false, eq-eqb}
 use Rattle.std.specs.Prelude.{nat_eq}
 use Rattle.dyadic.specs.Fraction.{Fraction, IsFraction, at_most, difference_of, negated}
-use Rattle.dyadic.specs.Rounding.{Dyadic, exact, two_to_minus}
+use Rattle.dyadic.specs.Rounding.{exact, two_to_minus}
 use Rattle.interval_model.specs.Space.{Domain, real_domain, bool_domain, Space, can_be_halved, side, better, widest_from, widest, is_undecided, test_axis}
 use Rattle.dyadic.proofs.Equal.{both_true, both_pass, through, total}
 use Rattle.interval_model.proofs.EndsProducts.{at_most_refl}

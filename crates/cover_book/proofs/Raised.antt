@@ -1,20 +1,20 @@
 -- A book is one in version 5.
-use Rattle.std.proofs.Common.{◌≡◌, ◌⊎◌, inl, inr, ℕ, suc, ◌+◌, ◌≤◌, List, [], ◌∷◌, ◌++◌, IsTrue, Option, Some, None, refl, arith}
-use Rattle.std.specs.Prelude.{IfSome, slice_get}
+use Rattle.std.proofs.Common.{inl, inr, ℕ, ◌≤◌, List, [], ◌∷◌, ◌++◌, Option, Some, None, refl, arith}
+use Rattle.std.specs.Prelude.{IfSome}
 use Rattle.std.proofs.lemmas.List.Elements.{All-weaker}
 use Rattle.interval_model.specs.Space.{Space}
 use Rattle.cover_model.specs.Space.{IsGridSpace}
 use Rattle.poly_graph.specs.Problem.{Problem}
 use Rattle.cover_model.specs.State.{State, Loosenings, in_version}
-use Rattle.cover_model.specs.Rules.{Line, Left, closed, one, two, stays}
+use Rattle.cover_model.specs.Rules.{Line, closed, one, two, stays}
 use Rattle.cover_model.specs.Derivation.{Tree, Lawful, at_closed, at_left, at_step, at_fork}
 use Rattle.cover_model.specs.Fits.{IsShownAt}
 use Rattle.cover_model.proofs.Later.{rule_later}
 use Rattle.cert_model.specs.Written.{LemmaTree, AreLemmaTrees}
 use Rattle.cover_data.specs.declared.margins.Margins.{Margins}
-use Rattle.cover_data.specs.Margins.{AreMargins, loosenings_of, margins_in}
+use Rattle.cover_data.specs.Margins.{loosenings_of, margins_in}
 use Rattle.cover_data.proofs.Later.{lemma_in, shown_in, run_later}
-use Rattle.cover_book.specs.Model.{NodeModel, live_node, crossed_node, closed_node, parted_node, stuck_node, BookModel, problem_in, margins_of, loosenings_in, lemma_states_in, raised}
+use Rattle.cover_book.specs.Model.{NodeModel, live_node, crossed_node, closed_node, parted_node, stuck_node, BookModel, problem_in, margins_of, lemma_states_in, raised}
 use Rattle.cover_book.specs.Keeps.{HasRun, IsNodeOf, IsCovered, IsCrossed, IsKeptLemma, IsBook}
 use Rattle.cover_book.specs.Laws.{RaisedIsBook}
 use Rattle.cover_book.specs.Limits.{IsWithinLimits}

@@ -1,6 +1,6 @@
 -- Runs in a version of the format are runs in each later one.
 use Rattle.std.proofs.Common.{◌≡◌, ℕ, ◌≤◌, List, [], ◌∷◌, IsTrue, Option, Some, None, refl, sym, subst}
-use Rattle.std.specs.Prelude.{IfSome, All}
+use Rattle.std.specs.Prelude.{IfSome}
 use Rattle.std.proofs.lemmas.List.Elements.{All-weaker}
 use Rattle.dyadic.specs.Point.{Coordinate}
 use Rattle.poly_graph.specs.Problem.{Problem}

@@ -1,5 +1,5 @@
 -- What a patch answers: for each step and each end the first refusal, and the patch after it where there is none.
-use Rattle.std.specs.Prelude.{◌≡◌, ◌≢◌, ◌<◌, ℕ, zero, suc, [], ◌∷◌, ◌++◌, Option, Some, None, Bool, true, false, not, ◌&&◌, ◌||◌, cond, nat_eq, is_none, length, IsTrue, Result, Ok, Err}
+use Rattle.std.specs.Prelude.{◌≡◌, ◌≢◌, ◌<◌, ℕ, zero, suc, [], ◌∷◌, ◌++◌, Option, Some, None, Bool, true, false, not, ◌&&◌, ◌||◌, cond, nat_eq, is_none, length, Result, Ok, Err}
 use Rattle.dyadic.specs.Fraction.{at_most, difference_of}
 use Rattle.dyadic.specs.Rounding.{Dyadic, exact, two_to_minus, mid}
 use Rattle.interval_model.specs.Space.{Domain, real_domain, bool_domain, Space, can_be_halved, test_axis, is_undecided, widest}

@@ -1,8 +1,5 @@
-use Rattle.std.proofs.Common.{◌≡◌, ◌∙◌, ap, sym, Bool, not, ◌&&◌, ◌||◌}
-use Rattle.cover_model.specs.Rules.{has_version_5}
-use Rattle.ival.specs.SpaceViews.{space_of}
+use Rattle.std.proofs.Common.{◌∙◌, sym}
 use Rattle.cover_data.specs.Margins.{loosenings_of}
-use Rattle.cover_rule.specs.Refusals.{is_widest}
 use Rattle.cover_rule.proofs.Cuts.{not_where_small, always_in_5, widest_before_5}
 use Rattle.cover_rule.proofs.branches.may_be_cut.Goals as goal
 

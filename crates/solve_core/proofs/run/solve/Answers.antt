@@ -1,5 +1,5 @@
 -- What was searched for from the opening book is of its problem.
-use Rattle.std.proofs.Common.{◌≡◌, ap, ◌∙◌, subst, sym, inl, refl}
+use Rattle.std.proofs.Common.{◌≡◌, ap, ◌∙◌, subst, sym, refl}
 use Rattle.poly_graph.specs.ProblemViews.{Parts}
 use Rattle.cover_data.specs.declared.margins.Options.{Options}
 use Rattle.cover_data.specs.Margins.{options_in}
