@@ -1,12 +1,13 @@
 -- The books of the checks of a script, one after the other.
-use Rattle.std.proofs.Common.{◌≡◌, ℕ, zero, suc, ◌<◌, ◌≤◌, List, [], ◌∷◌, ◌++◌, map, length, take, Bool, true, cond, Some, Result, Ok, Err, IfOk, All, refl, ap, sym, ◌∙◌, subst, arith}
+use Rattle.std.proofs.Common.{◌≡◌, ◌⊎◌, inl, inr, ℕ, zero, suc, ◌<◌, ◌≤◌, List, [], ◌∷◌, ◌++◌, map, length, take, Bool, true, false, cond, nat_le, Some, true≢false, Result, Ok, Err, IfOk, All, refl, ap, sym, ◌∙◌, subst, arith}
 use Rattle.std.specs.Prelude.{slice_get}
 use Rattle.std.proofs.lemmas.Option.{slice_get_within, get_or_from_slice_get}
 use Rattle.std.proofs.lemmas.List.{length-take}
+use Rattle.std.proofs.lemmas.Bool.{leb-true}
 use Rattle.poly_graph.specs.ProblemViews.{Parts, problem_of}
 use Rattle.problem_session.specs.Session.{problems_of}
 use Rattle.cover_model.specs.Carried.{GoesOnFrom}
-use Rattle.cover_model.specs.State.{State}
+use Rattle.cover_model.specs.State.{State, root_state}
 use Rattle.cover_data.specs.declared.margins.Options.{Options}
 use Rattle.cert_model.specs.SessionLaws.{GoOn, IsSession}
 use Rattle.cover_book.specs.Keeps.{IsBook}
@@ -17,8 +18,9 @@ use Rattle.cover_book.specs.Verdict.{verdict_of}
 use Rattle.cover_book.specs.declared.verdict.BookVerdict.TheVariants as verdict
 use Rattle.cover_book.specs.Left.{LeavesDue}
 use Rattle.solve_core.specs.Reaches.{IsSearched}
-use Rattle.solve_core.specs.Solved.{IsSolved, IsCheckWithin, IsProblemAt}
-use Rattle.cover_data.specs.Margins.{options_in}
+use Rattle.solve_core.specs.Solved.{IsInVersionOf, IsSolved, IsCheckWithin, IsProblemAt, IsOpeningAt, AreAppended, AreBooksInOneVersion}
+use Rattle.cover_data.specs.declared.margins.Margins.{Margins}
+use Rattle.cover_data.specs.Margins.{AreMargins, margins_of, options_in}
 use Rattle.cover_book.proofs.Raised.{raised_is_book}
 use Rattle.solve_core.proofs.Reached.{searched_same, searched_raised}
 
@@ -119,6 +121,69 @@ next-book o ps i books last b e h m at check w same kept root =
     let n : suc i ≡ length books = sym (first_count o ps (suc i) books h m) in
     subst (λ (qs : List Check). AreBooksOf o [] qs (books ++ (b ∷ []))) (take_next ps (suc i) (b.problem, e) check)
     (one-more o [] (take (suc i) ps) books last b b.problem e h i n at w refl same kept root)
+
+get-raised : (books : List BookModel) (i : ℕ) (b : BookModel) → slice_get books i ≡ Some b → slice_get (map raised books) i ≡ Some (raised b)
+get-raised [] i b e = cc
+get-raised (c ∷ books) zero b e = let x : c ≡ b = cc in ap (λ (d : BookModel). Some (raised d)) x
+get-raised (c ∷ books) (suc i) b e = get-raised books i b e
+
+version-of : (m : Margins) → AreMargins m → (t : Bool) → nat_le 5 m.version ≡ t → cond t (m.version ≡ 5) (m.version ≡ 2)
+version-of m h true e = elim h.version_is [ inl f ↦ let k : 5 ≤ m.version = leb-true 5 m.version e in absurd (omega (arith, f, k)) | inr f ↦ f ]
+version-of m h false e = elim h.version_is [ inl f ↦ f | inr f ↦ absurd (true≢false (ap (nat_le 5) (sym f) ∙ e)) ]
+
+-- one more book: where it is of version 5, so are the others now; else all are of version 2
+pub next_books : (o : Options) → AreMargins (margins_of o) → (ps : List Check) (i : ℕ) (books new : List BookModel) (last opened b : BookModel) (p : Parts) →
+    AreBooksInOneVersion o (take (suc i) ps) books → suc i ≤ length ps → slice_get books i ≡ Some last → IsOpeningAt ps i last p opened → IsSearched opened b →
+    IsInVersionOf o opened.options.version b → IsBook b → AreAppended books b new → AreBooksInOneVersion o (take (suc (suc i)) ps) new
+next_books o om ps i books new last opened b p h m at x r in-version w appended = by-version (nat_le 5 b.options.version) refl
+  where
+    v : ℕ
+    v = h.0
+    same = searched_same r
+
+    problem : b.problem ≡ p
+    problem = same.0 ∙ ap (λ (d : BookModel). d.problem) x.book
+
+    check : slice_get ps (suc i) ≡ Some (b.problem, x.goes_on)
+    check = x.check ∙ ap (λ (q : Parts). Some (q, x.goes_on)) (sym problem)
+
+    kept : b.kept ≡ cond x.goes_on (kept_from last b.problem) []
+    kept = same.2 ∙ ap (λ (d : BookModel). d.kept) x.book ∙ ap (λ (q : Parts). cond x.goes_on (kept_from last q) []) (sym problem)
+
+    root : IsOfRoot b
+    root = same.3 ∙ ap (λ (d : BookModel). d.root) x.book ∙ ap (λ (q : Parts). root_state (problem_of q)) (sym problem)
+
+    last-in : last.options ≡ options_in v o
+    last-in = (book_at (options_in v o) ps (suc i) books h.2 i last at).1
+
+    opened-in : opened.options.version ≡ v
+    opened-in = ap (λ (d : BookModel). d.options.version) x.book ∙ ap (λ (z : Options). z.version) last-in
+
+    by-version : (t : Bool) → nat_le 5 b.options.version ≡ t → AreBooksInOneVersion o (take (suc (suc i)) ps) new
+    by-version true e =
+        let five : b.options.version ≡ 5 = version-of (margins_of b.options) w.limits.margins true e in
+        let own : b.options ≡ options_in 5 o = in-version.options ∙ ap (λ (n : ℕ). options_in n o) five in
+        let of-options : 5 ≡ o.version = elim in-version.version [
+          | inl k ↦ elim h.1 [ inl f ↦ absurd (omega (arith, f, k, five, opened-in)) | inr f ↦ sym five ∙ k ∙ opened-in ∙ f ]
+          | inr k ↦ sym five ∙ k
+        ] in (
+          5,
+          inr of-options,
+          subst (AreBooksOf (options_in 5 o) [] (take (suc (suc i)) ps)) (sym (appended ∙ ap (λ (t : Bool). cond t (map raised books) books ++ (b ∷ [])) e))
+              (next-book (options_in 5 o) ps i (map raised books) (raised last) b x.goes_on (raised_books (options_in v o) [] (take (suc i) ps) books h.2) m (get-raised books i last at) check w own kept root),
+        )
+    by-version false e =
+        let two : b.options.version ≡ 2 = version-of (margins_of b.options) w.limits.margins false e in
+        let same-version : v ≡ 2 = elim in-version.version [
+          | inl k ↦ sym opened-in ∙ sym k ∙ two
+          | inr k ↦ elim h.1 [ inl f ↦ f | inr f ↦ f ∙ sym k ∙ two ]
+        ] in
+        let own : b.options ≡ options_in v o = in-version.options ∙ ap (λ (n : ℕ). options_in n o) (two ∙ sym same-version) in (
+          v,
+          inl same-version,
+          subst (AreBooksOf (options_in v o) [] (take (suc (suc i)) ps)) (sym (appended ∙ ap (λ (t : Bool). cond t (map raised books) books ++ (b ∷ [])) e))
+              (next-book (options_in v o) ps i books last b x.goes_on h.2 m at check w own kept root),
+        )
 
 pub first_book : (o : Options) (ps : List Check) (b : BookModel) → IsProblemAt ps zero b.problem → IsBook b → b.options ≡ o → b.kept ≡ [] → IsOfRoot b → AreBooksOf o [] (take 1 ps) (b ∷ [])
 first_book o [] b at w e k t = let f = at.1 in cc
