@@ -5,12 +5,12 @@ use ival::Rows;
 use poly_graph::{Graph, Node};
 use std::alloc::{AllocError, Global};
 
-const NONE: Span = Span {
+const NO_SLOPE: Span = Span {
     low: 0.0,
     high: 0.0,
 };
 
-const ONE: Span = Span {
+const OWN_SLOPE: Span = Span {
     low: 1.0,
     high: 1.0,
 };
@@ -37,7 +37,7 @@ fn values_at(rows: &Rows, n: u32) -> Span {
     if n < rows.len() {
         span_of_interval(rows.get(n))
     } else {
-        NONE
+        NO_SLOPE
     }
 }
 
@@ -45,9 +45,9 @@ impl Slopes {
     /// None, for the nodes of the graph and so many axes.
     pub fn of(alloc: Global, graph: &Graph, axes: usize) -> Result<Slopes, AllocError> {
         Ok(Slopes {
-            of_node: vec![in alloc; NONE; graph.len()]?,
+            of_node: vec![in alloc; NO_SLOPE; graph.len()]?,
             due: DueNodes::of(alloc, graph.len())?,
-            of_axis: vec![in alloc; NONE; axes]?,
+            of_axis: vec![in alloc; NO_SLOPE; axes]?,
         })
     }
 
@@ -62,7 +62,7 @@ impl Slopes {
         match self.due.take(word) {
             Some(n) if n < self.of_node.len() => {
                 let slope = self.of_node[n];
-                self.of_node[n] = NONE;
+                self.of_node[n] = NO_SLOPE;
                 Some((n, slope))
             }
             _ => None,
@@ -93,9 +93,9 @@ impl Slopes {
     /// The slopes of the term along each axis over the box in which the nodes have these enclosures.
     pub fn sweep(&mut self, graph: &Graph, root: u32, rows: &Rows) -> &[Span] {
         for slope in self.of_axis.iter_mut() {
-            *slope = NONE;
+            *slope = NO_SLOPE;
         }
-        self.add(root, ONE);
+        self.add(root, OWN_SLOPE);
         let words = root as usize / 64 + 1;
         for above in 0..words {
             let word = words - 1 - above;

@@ -1,5 +1,5 @@
 -- Books that calls lead to.
-use Rattle.std.proofs.Common.{◌≡◌, inl, inr, ℕ, ◌≤◌, refl, sym, ap, subst, ◌∙◌, arith}
+use Rattle.std.proofs.Common.{◌≡◌, ◌⊎◌, inl, inr, ℕ, ◌≤◌, refl, sym, ap, subst, ◌∙◌, arith}
 use Rattle.cover_data.specs.declared.margins.Margins.{Margins}
 use Rattle.cover_data.specs.declared.margins.Options.{Options}
 use Rattle.cover_data.specs.Margins.{AreMargins, options_in}
@@ -63,16 +63,16 @@ module _ (o : Options) (book : BookModel) (same : book.options ≡ options_in bo
 pub is_version_5 : (m : Margins) → AreMargins m → 5 ≤ m.version → m.version ≡ 5
 is_version_5 m h k = elim h.version_is [ inl e ↦ absurd (omega (arith, e, k)) | inr e ↦ e ]
 
--- the limits do not depend on the version
-pub limits_in_2 : (p : Parts) (o : Options) → IsWithinLimits p o → IsWithinLimits p (options_in 2 o)
-limits_in_2 p o h = record {
+-- the limits are the same in version 2 and in that of the options
+pub limits_in : (p : Parts) (o : Options) (v : ℕ) → (v ≡ 2) ⊎ (v ≡ o.version) → IsWithinLimits p o → IsWithinLimits p (options_in v o)
+limits_in p o v e h = record {
   margins = record {
     some_delta = h.margins.some_delta;
     few_delta = h.margins.few_delta;
     above_delta = h.margins.above_delta;
     few_margin = h.margins.few_margin;
     few_least = h.margins.few_least;
-    version_is = inl refl;
+    version_is = elim e [ inl k ↦ inl k | inr k ↦ elim h.margins.version_is [ inl f ↦ inl (k ∙ f) | inr f ↦ inr (k ∙ f) ] ];
   };
   budget = h.budget;
   axes = h.axes;

@@ -1,5 +1,5 @@
 -- What was searched for from the opening book is of its problem.
-use Rattle.std.proofs.Common.{◌≡◌, ap, ◌∙◌, subst, sym, refl}
+use Rattle.std.proofs.Common.{◌≡◌, ap, ◌∙◌, subst, sym, inl, refl}
 use Rattle.poly_graph.specs.ProblemViews.{Parts}
 use Rattle.cover_data.specs.declared.margins.Options.{Options}
 use Rattle.cover_data.specs.Margins.{options_in}
@@ -7,14 +7,14 @@ use Rattle.cover_book.specs.Model.{BookModel, opening}
 use Rattle.cover_book.specs.Limits.{IsWithinLimits}
 use Rattle.solve_core.specs.Reaches.{IsSearched}
 use Rattle.solve_core.specs.Solved.{IsInVersionOf}
-use Rattle.solve_core.proofs.Reached.{searched_same, limits_in_2}
+use Rattle.solve_core.proofs.Reached.{searched_same, limits_in}
 use Rattle.solve_core.proofs.Together.{each_ok}
 use Rattle.solve_core.proofs.run.solve.Goals as goal
 
 pub new-requires : goal.new-requires
 new-requires g c =
     subst (λ (o : Options). IsWithinLimits c.in_ok-copy.copy o) (sym c.in_version.ensures)
-    (limits_in_2 c.in_ok-copy.copy c.args.options.now (subst (λ (p : Parts). IsWithinLimits p c.args.options.now) (sym c.in_ok-copy.ensures) c.requires))
+    (limits_in c.in_ok-copy.copy c.args.options.now 2 (inl refl) (subst (λ (p : Parts). IsWithinLimits p c.args.options.now) (sym c.in_ok-copy.ensures) c.requires))
 
 -- the book as it opened
 pub search_in_versions-requires-clause-options : goal.search_in_versions-requires-clause-options
