@@ -38,7 +38,7 @@ module _ (p : Problem) (s : Loosenings) (v : ℕ) (later : s.version ≤ v) wher
 -- ---- nodes
 
 module _ (p : Problem) (m : Margins) (v : ℕ) (later : m.version ≤ v) where
-  has-later : (lemmas : List State) (S : State) (steps : List Line) (l : Line) → HasRun p m lemmas S steps l → HasRun p (margins_in v m) lemmas S steps l
+  abbrev has-later : (lemmas : List State) (S : State) (steps : List Line) (l : Line) → HasRun p m lemmas S steps l → HasRun p (margins_in v m) lemmas S steps l
   has-later lemmas S steps l h = record {
     run = h.run;
     first = h.first;
