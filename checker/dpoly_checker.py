@@ -6,8 +6,8 @@
 It prints what `dpoly-check` prints and ends with the same status. It was written from
 docs/FORMATS.md, by one who had not read the sources in Rattle, so that two readings of that page
 can be compared (`tests/checkers`); what the page left open was asked of the program and written
-there. Goals and least values, square roots and quotients were added by one who knew the definitions
-as well. The words are those of the page, which an auditor keeps beside these files; together they
+there. Goals and least values, square roots and quotients, and version 5 of the format were added by
+ones who knew the definitions as well. The words are those of the page, which an auditor keeps beside these files; together they
 take more than an hour:
 
     dpoly_intervals.py  ends and intervals
