@@ -6,9 +6,9 @@
 It prints what `dpoly-check` prints and ends with the same status. It was written from
 docs/FORMATS.md, by one who had not read the sources in Rattle, so that two readings of that page
 can be compared (`tests/checkers`); what the page left open was asked of the program and written
-there. Goals and least values, square roots and quotients, and version 5 of the format were added by
-ones who knew the definitions as well. The words are those of the page, which an auditor keeps beside these files; together they
-take more than an hour:
+there. Goals and least values, square roots and quotients, and version 5 were added with knowledge
+of the definitions. The words are those of the page, which an auditor keeps beside these files;
+together they take more than an hour:
 
     dpoly_intervals.py  ends and intervals
     dpoly_script.py     reads a script: terms, atoms and forms
@@ -232,8 +232,8 @@ class Cover:
 
     def is_combination(self, atoms: Sequence[int], multipliers: Sequence[End]) -> bool:
         """Whether these are the pairs of a combination."""
-        return (len(atoms) <= self.version.most_pairs and ascends(atoms) and
-                0 not in multipliers)
+        is_short = len(atoms) <= self.version.most_pairs
+        return is_short and ascends(atoms) and 0 not in multipliers
 
     def kept(self, atom: int, mark: bool) -> Interval:
         """The range of an atom at the margin, or its off-range."""

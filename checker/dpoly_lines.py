@@ -51,8 +51,8 @@ RULES: Dict[str, Rule] = {
 
 
 class Version(NamedTuple):
-    """A version of the format: what its certificates are of, by the keys of `BEHIND_BOUND`, what may
-    narrow a box, and how many pairs a combination has at most."""
+    """A version of the format: what its certificates are of, by the keys of `BEHIND_BOUND`, what
+    may narrow a box, and how many pairs a combination has at most."""
     of: FrozenSet[str]
     narrows: Tuple[str, ...]
     most_pairs: int
