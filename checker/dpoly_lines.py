@@ -52,10 +52,12 @@ RULES: Dict[str, Rule] = {
 
 class Version(NamedTuple):
     """A version of the format: what its certificates are of, by the keys of `BEHIND_BOUND`, what
-    may narrow a box, and how many pairs a combination has at most."""
+    may narrow a box, how many pairs a combination has at most, and whether an honest line may cut
+    any Real axis above the least width, or the widest alone, which no checker asks."""
     of: FrozenSet[str]
     narrows: Tuple[str, ...]
     most_pairs: int
+    cuts_any: bool
 
 
 # The words of the line behind the bound, which tells what a certificate is of.
@@ -63,11 +65,11 @@ BEHIND_BOUND = {'one check': ('cover', 'point'), 'several checks': ('checks',),
                 'least value': ('lower',)}
 ALL_NARROW = ('range', 'off-range', 'combination')
 VERSIONS: Dict[int, Version] = {
-    1: Version(frozenset({'one check'}), ('range',), 0),
-    2: Version(frozenset({'one check'}), ALL_NARROW, 64),
-    3: Version(frozenset({'several checks'}), ALL_NARROW, 64),
-    4: Version(frozenset({'least value'}), ALL_NARROW, 64),
-    5: Version(frozenset(BEHIND_BOUND), ALL_NARROW, 512),
+    1: Version(frozenset({'one check'}), ('range',), 0, False),
+    2: Version(frozenset({'one check'}), ALL_NARROW, 64, False),
+    3: Version(frozenset({'several checks'}), ALL_NARROW, 64, False),
+    4: Version(frozenset({'least value'}), ALL_NARROW, 64, False),
+    5: Version(frozenset(BEHIND_BOUND), ALL_NARROW, 512, True),
 }
 
 
