@@ -215,10 +215,6 @@ fn answer(book: &Book, lemma: Option<&Lemma>, patch: &mut Patch, line: &Line) ->
         Line::Rule(Rule::Branch(Branching::Flip(axis))) if is_axis(book, *axis) => Some(patch.flip(
             *axis,
         )),
-        Line::Rule(Rule::Narrow(Narrowing::Combine(pairs))) => Some(patch.combine(pairs)),
-        Line::Rule(Rule::End(Ending::Void(Narrowing::Combine(pairs)))) => Some(patch.void_combine(
-            pairs,
-        )),
         Line::Rule(Rule::Mark(Marking::Ban(_, _))) | Line::Rule(Rule::End(Ending::By(_))) =>
             answer_by(book, lemma?, patch, line),
         _ => answer_at_atom(book, patch, line),
