@@ -52,8 +52,8 @@ COMMANDS = [
     Stage(840, 160, "demo", "gen_script demo_law"),
 ]
 BELOW = Stage(0, WIDTH, "Below all of them: numbers, definitions, laws, what both ways share", """
-    dyadic spelling_law interval_model ival poly_graph form_truth script_model cover_line
-    cover_model cert_model headline real_points""")
+    dyadic spelling_law interval_model ival poly_graph square_model squares form_truth script_model
+    cover_line cover_model cert_model headline real_points""")
 BESIDE = Stage(0, WIDTH, "Beside them: pictures, and worked rows", """
     cover_svg sample_problems number_rows interval_trial contraction_rows reader_rows meaning_rows
     text_rows cover_rows search_rows thread_rows""")

@@ -1,0 +1,6 @@
+//! Computes sums of squares: polynomials about a centre, and the condition by which a space has no point at which each
+//! atom's value lies in its range.
+#![tactic(auto)]
+
+mod monomial;
+mod polynomial;
