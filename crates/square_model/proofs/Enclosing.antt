@@ -1,5 +1,5 @@
 -- What polynomials enclose, one monomial after the other.
-use Rattle.std.proofs.Common.{◌≡◌, ℕ, arith, List, [], ◌∷◌, Bool, true, false, cond, IsTrue, refl, ap, sym, subst, nat_le}
+use Rattle.std.proofs.Common.{◌≡◌, ℕ, arith, List, [], ◌∷◌, Bool, true, false, cond, refl, ap, sym, subst, nat_le}
 use Rattle.std.proofs.lemmas.Bool.Decides.{nat_tests}
 use Rattle.std.specs.Cmp.Lexicographic.{slice_cmp}
 use Rattle.std.specs.Ordering.{nat_cmp, ordering_then}
@@ -8,7 +8,7 @@ use Rattle.std.specs.declared.cmp.Ordering.TheVariants.{Less, Equal, Greater}
 use Rattle.dyadic.specs.Fraction.{at_most}
 use Rattle.dyadic.specs.Point.{Sort, real_sort}
 use Rattle.poly_graph.specs.Problem.{HasSort}
-use Rattle.interval_model.specs.Interval.{Interval, interval_sum, interval_product, interval_negated}
+use Rattle.interval_model.specs.Interval.{Interval, interval_product}
 use Rattle.interval_model.proofs.Holds.{Holds, sum_holds, product_holds, negated_holds}
 use Rattle.square_model.specs.Polynomial.{Monomial, Polynomial, one_alone, with_axis, together, placed, given, constant_polynomial, polynomial_negated, polynomial_sum, multiple_given, product_given, polynomial_product}
 use Rattle.square_model.specs.Encloses.{AreReal}

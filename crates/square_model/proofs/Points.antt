@@ -1,11 +1,11 @@
 -- Points of a space and their differences to its centre, and the two forms of what a polynomial encloses.
-use Rattle.std.proofs.Common.{◌≡◌, ℕ, suc, zero, List, [], ◌∷◌, Bool, true, false, ◌&&◌, IsTrue, refl, ap, sym, subst, arith, ℤ, pos, ◌*ℤ◌, ◌≤ℤ◌, true≢false}
+use Rattle.std.proofs.Common.{◌≡◌, ℕ, suc, zero, List, [], ◌∷◌, ◌&&◌, IsTrue, refl, sym, subst, arith, ℤ, pos, ◌*ℤ◌, ◌≤ℤ◌, true≢false}
 use Rattle.std.proofs.lemmas.Int.{ints}
-use Rattle.dyadic.specs.Fraction.{Fraction, IsFraction, at_most, zero_fraction, sum_of, product_of, negated}
+use Rattle.dyadic.specs.Fraction.{Fraction, IsFraction, at_most, sum_of, product_of, negated}
 use Rattle.dyadic.specs.Point.{Sort, real_sort, bool_sort, Coordinate, at_fraction, at_bool, IsPoint}
 use Rattle.dyadic.specs.Rounding.{exact}
-use Rattle.dyadic.proofs.Equal.{◌≈◌, ≈_refl, holds_le, at_most_same, both_true}
-use Rattle.interval_model.specs.Interval.{Interval, interval_negated}
+use Rattle.dyadic.proofs.Equal.{◌≈◌, holds_le, at_most_same, both_true}
+use Rattle.interval_model.specs.Interval.{interval_negated}
 use Rattle.interval_model.specs.Space.{real_domain, bool_domain, Space, in_space, in_domain, axis_interval, test_axis}
 use Rattle.interval_model.proofs.Ends.{zero_is_good}
 use Rattle.interval_model.proofs.EndsProducts.{at_most_refl}
@@ -17,7 +17,7 @@ use Rattle.square_model.specs.Range.{apart_range}
 use Rattle.square_model.specs.Block.{is_real}
 use Rattle.square_model.specs.Encloses.{apart, monomial_value, AreIn, value_with, IsSame, Encloses}
 use Rattle.square_model.specs.Laws.{IsPointIn}
-use Rattle.square_model.proofs.Numbers.{Number, nought, one, plus_of, times_of, less, ◌≃◌, same_number, turned, then, plus_same, less_same, put_back, taken_front}
+use Rattle.square_model.proofs.Numbers.{Number, nought, plus_of, times_of, less, ◌≃◌, same_number, turned, then, plus_same, put_back, taken_front}
 use Rattle.square_model.proofs.Enclosing.{monomial_number, Enc, same_encloses}
 
 -- ---- coordinates

@@ -1,5 +1,5 @@
 -- The range of a polynomial holds what it encloses.
-use Rattle.std.proofs.Common.{◌≡◌, ℕ, List, [], ◌∷◌, Bool, true, false, cond, IsTrue, Option, Some, None, refl, sym, subst, nat_eq, eqb→eq}
+use Rattle.std.proofs.Common.{◌≡◌, ℕ, List, [], ◌∷◌, Bool, true, false, cond, Option, Some, None, refl, subst, nat_eq, eqb→eq}
 use Rattle.std.specs.Bool.{passes}
 use Rattle.dyadic.specs.Fraction.{at_most, zero_fraction}
 use Rattle.dyadic.specs.Point.{Sort, real_sort}

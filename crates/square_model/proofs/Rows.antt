@@ -1,5 +1,5 @@
 -- Small lines of squares, computed.
-use Rattle.std.specs.Prelude.{◌≡◌, ℕ, List, [], ◌∷◌, true, false, pos, negsuc, ◌^◌, ◌*◌, ◌-◌, refl}
+use Rattle.std.specs.Prelude.{◌≡◌, ℕ, [], ◌∷◌, true, false, pos, negsuc, ◌^◌, ◌*◌, ◌-◌, refl}
 use Rattle.dyadic.specs.Fraction.{Fraction}
 use Rattle.dyadic.specs.Rounding.{Dyadic, below_all, finite}
 use Rattle.interval_model.specs.Interval.{Interval, between}
@@ -9,9 +9,8 @@ use Rattle.poly_graph.specs.Form.{atom_is}
 use Rattle.poly_graph.specs.Problem.{Problem, Axis, real_between, term_of}
 use Rattle.square_model.specs.Polynomial.{only, nought_alone, one_alone, polynomial_of}
 use Rattle.square_model.specs.Range.{apart_range, polynomial_range}
-use Rattle.square_model.specs.Steps.{Counted}
 use Rattle.square_model.specs.Block.{Block, no_factor, bound_of, block_polynomial}
-use Rattle.square_model.specs.Positive.{rest_polynomial, all_steps, is_positive}
+use Rattle.square_model.specs.Positive.{all_steps, is_positive}
 
 abbrev fraction : ℕ → ℕ → Fraction
 fraction n d = record { num = pos n; den = d }

@@ -1,12 +1,11 @@
 -- Numbers that are not negative.
-use Rattle.std.proofs.Common.{◌≡◌, ℕ, suc, ◌+◌, ◌*◌, ◌^◌, ◌<◌, arith, IsTrue, refl, ap, ap₂, sym, ◌∙◌, subst, ℤ, pos, negsuc, ◌+ℤ◌, ◌*ℤ◌, neg_ℤ, ◌≤ℤ◌}
+use Rattle.std.proofs.Common.{◌≡◌, ℕ, suc, ◌*◌, arith, IsTrue, refl, ap₂, subst, ℤ, pos, negsuc, ◌*ℤ◌, ◌≤ℤ◌}
 use Rattle.std.proofs.lemmas.Int.{ints}
-use Rattle.dyadic.specs.Fraction.{Fraction, IsFraction, at_most, zero_fraction, sum_of, product_of, negated}
-use Rattle.dyadic.specs.Rounding.{Dyadic, exact}
+use Rattle.dyadic.specs.Fraction.{Fraction, at_most, zero_fraction, product_of, negated}
 use Rattle.dyadic.proofs.Equal.{holds_le, le_holds, at_most_same, at_least_same}
 use Rattle.interval_model.proofs.EndsProducts.{at_most_refl}
 use Rattle.interval_model.proofs.EndsSums.{sum_mono, negated_mono}
-use Rattle.square_model.proofs.Numbers.{Number, nought, plus_of, times_of, opposite_of, less, ◌≃◌, nought_right, cancelled}
+use Rattle.square_model.proofs.Numbers.{Number, nought, plus_of, times_of, less, nought_right, cancelled}
 
 abbrev pub NotNegative : Number → Type 0
 NotNegative x = IsTrue (at_most zero_fraction x.value)

@@ -1,23 +1,23 @@
 -- A line of squares that is positive has no point.
-use Rattle.std.proofs.Common.{◌≡◌, ℕ, List, [], ◌∷◌, Bool, true, false, not, ◌&&◌, IsTrue, refl, ap, sym, ◌∙◌, subst, true≢false}
-use Rattle.dyadic.specs.Fraction.{Fraction, IsFraction, at_most, zero_fraction}
-use Rattle.dyadic.specs.Point.{Sort, real_sort, Coordinate, IsPoint}
-use Rattle.dyadic.specs.Rounding.{exact, End, at, end_of, end_at_most, ext_at_most, down, up}
+use Rattle.std.proofs.Common.{ℕ, List, [], ◌∷◌, not, ◌&&◌, IsTrue, refl, ap, sym, ◌∙◌, true≢false}
+use Rattle.dyadic.specs.Fraction.{IsFraction, at_most}
+use Rattle.dyadic.specs.Point.{Sort, Coordinate, IsPoint}
+use Rattle.dyadic.specs.Rounding.{exact, at, end_of, end_at_most, down, up}
 use Rattle.dyadic.proofs.Equal.{both_true}
 use Rattle.interval_model.specs.Interval.{Interval, nothing, between, interval_product}
 use Rattle.interval_model.specs.Space.{Space}
 use Rattle.interval_model.proofs.Ends.{end_trans}
 use Rattle.interval_model.proofs.Holds.{Holds, sum_holds, product_holds, rounded_fraction_holds}
-use Rattle.poly_graph.specs.Term.{Term, constant, variable, negate, add, multiply, square, term_value, graph_terms}
-use Rattle.poly_graph.specs.Problem.{Problem, IsProblem, IsTerm, HasSort, sorts_of_problem, atom_at, term_of}
+use Rattle.poly_graph.specs.Term.{Term, constant, variable, negate, add, multiply, square, term_value}
+use Rattle.poly_graph.specs.Problem.{Problem, IsTerm, sorts_of_problem, atom_at, term_of}
 use Rattle.poly_graph.proofs.Graphs.{terms_are}
 use Rattle.square_model.specs.Polynomial.{Polynomial, only, constant_polynomial, polynomial_of, polynomial_negated, polynomial_product, is_short}
 use Rattle.square_model.specs.Range.{apart_range, polynomial_range}
-use Rattle.square_model.specs.Steps.{Counted, counted, counted_sum, counted_negated}
+use Rattle.square_model.specs.Steps.{Counted, counted_sum, counted_negated}
 use Rattle.square_model.specs.Block.{Block, block_polynomial, is_block}
-use Rattle.square_model.specs.Positive.{Multipliers, combined_polynomial, less_blocks, rest_polynomial, allowed_range, is_above, are_blocks, is_small, is_positive}
+use Rattle.square_model.specs.Positive.{Multipliers, combined_polynomial, less_blocks, rest_polynomial, allowed_range, is_above, are_blocks, is_small}
 use Rattle.square_model.specs.Laws.{IsPointIn, AllLie, PolynomialsEnclose, RangesHold, SquaresAreNotNegative, PositiveIsSound}
-use Rattle.square_model.proofs.Numbers.{Number, nought, number, plus_of, times_of, opposite_of, less, ◌≃◌, same_number, turned, less_nought, less_both}
+use Rattle.square_model.proofs.Numbers.{Number, nought, number, plus_of, times_of, opposite_of, less, same_number, turned, less_nought, less_both}
 use Rattle.square_model.proofs.Signs.{NotNegative, nought_not_negative, plus_not_negative, less_is_below}
 use Rattle.square_model.proofs.Enclosing.{Enc, same_encloses, sum_encloses, product_encloses, negated_encloses, constant_encloses, axis_encloses}
 use Rattle.square_model.proofs.Ranging.{nought_holds, range_holds}

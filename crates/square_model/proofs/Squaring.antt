@@ -1,8 +1,8 @@
 -- A block's polynomial encloses a number that is not negative.
-use Rattle.std.proofs.Common.{◌≡◌, ℕ, List, [], ◌∷◌, Bool, true, false, cond, not, ◌&&◌, IsTrue, refl, sym, subst, length, nat_lt, nat_le, true≢false}
-use Rattle.dyadic.specs.Fraction.{at_most, product_of}
+use Rattle.std.proofs.Common.{ℕ, List, [], ◌∷◌, Bool, true, false, cond, not, ◌&&◌, IsTrue, refl, sym, length, nat_lt, nat_le, true≢false}
+use Rattle.dyadic.specs.Fraction.{at_most}
 use Rattle.dyadic.specs.Point.{Sort, real_sort}
-use Rattle.dyadic.specs.Rounding.{Dyadic, exact, End, at, Ext, below_all, finite, above_all, end_of, end_at_most}
+use Rattle.dyadic.specs.Rounding.{Dyadic, exact, at, Ext, below_all, finite, above_all, end_of, end_at_most}
 use Rattle.dyadic.proofs.Equal.{both_true, both_pass}
 use Rattle.poly_graph.specs.Problem.{HasSort}
 use Rattle.interval_model.specs.Interval.{Interval, nothing, between, interval_square, misses_nought}
@@ -10,12 +10,12 @@ use Rattle.interval_model.specs.Space.{Space, test_axis}
 use Rattle.interval_model.proofs.Ends.{◌⊑◌}
 use Rattle.interval_model.proofs.EndsProducts.{at_most_refl}
 use Rattle.interval_model.proofs.Holds.{Holds, square_holds}
-use Rattle.square_model.specs.Polynomial.{Monomial, Polynomial, only, minus_one_alone, given, polynomial_sum, polynomial_product}
+use Rattle.square_model.specs.Polynomial.{Monomial, Polynomial, only, minus_one_alone, given, polynomial_product}
 use Rattle.square_model.specs.Range.{apart_range}
 use Rattle.square_model.specs.Steps.{Counted, counted, counted_sum, counted_product}
 use Rattle.square_model.specs.Block.{Block, Factor, no_factor, bound_of, row_given, row_polynomial, squares_with, upper_end, bound_polynomial, greatest_square, factored, block_polynomial, is_real, are_real_axes, is_ascending, is_monomial, is_among, are_monomials, is_factor, is_finite, is_block}
 use Rattle.square_model.specs.Encloses.{AreReal}
-use Rattle.square_model.proofs.Numbers.{Number, nought, one, number, plus_of, times_of, opposite_of, less, ◌≃◌, same_number, bound_taken}
+use Rattle.square_model.proofs.Numbers.{Number, nought, one, number, plus_of, times_of, opposite_of, less, same_number, bound_taken}
 use Rattle.square_model.proofs.Signs.{NotNegative, nought_not_negative, plus_not_negative, times_not_negative, square_not_negative, less_not_negative}
 use Rattle.square_model.proofs.Enclosing.{monomial_number, Enc, given_encloses, sum_encloses, product_encloses}
 

@@ -5,7 +5,7 @@ use Rattle.std.specs.Ordering.{nat_cmp, is_eq}
 use Rattle.dyadic.specs.Rounding.{Dyadic, Ext, finite, above_all}
 use Rattle.interval_model.specs.Interval.{Interval, nothing, between, interval_square, misses_nought}
 use Rattle.interval_model.specs.Space.{Domain, real_domain, bool_domain, Space, test_axis}
-use Rattle.square_model.specs.Polynomial.{Monomial, Polynomial, only, minus_one_alone, given, polynomial_product}
+use Rattle.square_model.specs.Polynomial.{Monomial, Polynomial, only, minus_one_alone, given}
 use Rattle.square_model.specs.Range.{apart_range}
 use Rattle.square_model.specs.Steps.{Counted, counted, counted_sum, counted_product}
 

@@ -1,5 +1,5 @@
 -- What is proved of polynomials and of sums of squares.
-use Rattle.std.specs.Prelude.{ℕ, ◌<◌, List, [], ◌∷◌, All, length, IsTrue}
+use Rattle.std.specs.Prelude.{ℕ, ◌<◌, List, [], ◌∷◌, length, IsTrue}
 use Rattle.dyadic.specs.Fraction.{Fraction, IsFraction, zero_fraction, at_most}
 use Rattle.dyadic.specs.Point.{Sort, Coordinate, IsPoint}
 use Rattle.interval_model.specs.Interval.{Interval, holds_fraction}

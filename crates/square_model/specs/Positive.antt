@@ -1,11 +1,11 @@
 -- Sums of squares: whether a combination of atoms, less what is at least 0 over the space, is above what its atoms allow, so that
 -- no point of the space has each atom's value in its range. (Putinar, Indiana Univ. Math. J. 1993; with interval coefficients.)
-use Rattle.std.specs.Prelude.{ℕ, zero, suc, ◌+◌, List, [], ◌∷◌, length, Bool, true, false, cond, not, ◌&&◌, Option, Some, None, nat_le, get_or, set, replicate, slice_get, slice_index_or}
+use Rattle.std.specs.Prelude.{ℕ, zero, suc, ◌+◌, List, [], ◌∷◌, length, Bool, true, false, cond, not, ◌&&◌, Option, Some, nat_le, get_or, set, replicate, slice_get, slice_index_or}
 use Rattle.dyadic.specs.Fraction.{zero_fraction}
 use Rattle.dyadic.specs.Rounding.{Dyadic, ext_at_most}
 use Rattle.interval_model.specs.Interval.{Interval, between, interval_sum, interval_product}
 use Rattle.interval_model.specs.Space.{Space}
-use Rattle.poly_graph.specs.Term.{constant, Node, constant_node, variable_node, negate_node, add_node, multiply_node, square_node, graph_terms}
+use Rattle.poly_graph.specs.Term.{constant, Node, negate_node, add_node, multiply_node, square_node, graph_terms}
 use Rattle.poly_graph.specs.Problem.{Problem, atom_at, term_of}
 use Rattle.square_model.specs.Polynomial.{Polynomial, only, nought_alone, constant_polynomial, is_short, polynomial_of}
 use Rattle.square_model.specs.Range.{apart_range, polynomial_range}

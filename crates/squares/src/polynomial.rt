@@ -1,8 +1,22 @@
 // Polynomials, and the operations on them.
+ghost use Rattle.std.specs.Prelude.{◌≡◌};
+ghost use Rattle.ival.specs.Views.{interval_of};
+ghost use Rattle.squares.specs.Views.{total};
+
 use crate::monomial::together;
 use ival::Ival;
 use std::alloc::{AllocError, Global};
 use std::collections::BTreeMap;
+
+// The sum of what is there, if something is, and this.
+fn total(own: Option<Ival>, more: Ival) -> Ival
+    ensures { interval_of result ≡ total interval_of own (interval_of more) }
+{
+    match own {
+        Some(own) => own.add(more),
+        None => more,
+    }
+}
 
 /// A polynomial in the differences of axes to a centre: its monomials, each with an interval for a coefficient.
 #[derive(Drop)]
@@ -37,11 +51,8 @@ impl Polynomial {
         ensures { OnOk result (terms_of self.new ≡
             given monomial.items (interval_of more) (terms_of self.old)) }
     {
-        let sum = match self.terms.get(&monomial) {
-            Some(own) => own.add(more),
-            None => more,
-        };
-        self.terms.insert(monomial, sum)?;
+        let own = self.terms.get(&monomial).copied();
+        self.terms.insert(monomial, total(own, more))?;
         Ok(())
     }
 
