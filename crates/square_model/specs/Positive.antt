@@ -1,5 +1,5 @@
 -- Sums of squares: whether a combination of atoms, less what is at least 0 over the space, is above what its atoms allow, so that
--- no point of the space has each atom's value in its range. (Putinar, Indiana Univ. Math. J. 1993; with interval coefficients.)
+-- no point of the space has each atom's value in its range.
 use Rattle.std.specs.Prelude.{ℕ, zero, suc, ◌+◌, List, [], ◌∷◌, length, Bool, true, false, cond, not, ◌&&◌, Option, Some, nat_le, get_or, set, replicate, slice_get, slice_index_or}
 use Rattle.dyadic.specs.Fraction.{zero_fraction}
 use Rattle.dyadic.specs.Rounding.{Dyadic, ext_at_most}

@@ -4,9 +4,13 @@ use Rattle.std.specs.declared.alloc.Global.{Global}
 use Rattle.ival.specs.declared.ends.Ival.{Ival}
 use Rattle.ival.specs.Views.{interval_of}
 use Rattle.interval_model.specs.Interval.{Interval, interval_sum}
+use Rattle.ival.specs.SpaceViews.{space_of}
+use Rattle.ival.specs.declared.space.Space.{Space}
 use Rattle.square_model.specs.Polynomial as model
+use Rattle.square_model.specs.Range.{apart_range, range_times}
 use Rattle.square_model.specs.Polynomial.{Monomial}
 use Rattle.squares.specs.declared.polynomial.Polynomial.{Polynomial}
+use Rattle.squares.specs.declared.range.Factors.{Factors}
 
 abbrev pub axes_of : Vec ℕ Global → Monomial
 axes_of v = v.items
@@ -21,3 +25,11 @@ terms_of p = map term_of p.terms.entries
 abbrev pub total : {X : Type 0} → (X → Interval) → Option X → Interval → Interval
 total g None i = i
 total g (Some x) i = interval_sum (g x) i
+
+-- by how much an axis may differ from the centre, over the space
+abbrev pub apart_over : Space → Space → ℕ → Interval
+apart_over space centre axis = apart_range (space_of space) (space_of centre) axis
+
+-- of the factors so far and these
+abbrev pub range_before : (ℕ → Interval) → Factors → Monomial → Interval
+range_before apart f m = range_times apart (interval_of f.range) f.waiting m

@@ -3,4 +3,6 @@
 #![tactic(auto)]
 
 mod monomial;
+mod number;
 mod polynomial;
+mod range;

@@ -80,7 +80,29 @@ impl Polynomial {
         Ok(())
     }
 
-    /// Gives a multiple of another polynomial.
+    /// The sum of two polynomials.
+    pub fn sum(&self, alloc: Global, other: &Polynomial) -> Result<Polynomial, AllocError>
+        ensures { IfOk result (λ sum. terms_of sum ≡
+            polynomial_sum (terms_of self.now) (terms_of other.now)) }
+    {
+        let mut sum = Polynomial::new(alloc);
+        sum.add(alloc, self)?;
+        sum.add(alloc, other)?;
+        Ok(sum)
+    }
+
+    /// The polynomial with opposite coefficients.
+    pub fn negated(&self, alloc: Global) -> Result<Polynomial, AllocError>
+        ensures { IfOk result (λ negated. terms_of negated ≡
+            polynomial_negated (terms_of self.now)) }
+    {
+        let mut negated = Polynomial::new(alloc);
+        negated.subtract(alloc, self)?;
+        let _ordered = self.len();
+        Ok(negated)
+    }
+
+    // Gives a multiple of another polynomial.
     fn give_multiple(
         &mut self,
         alloc: Global,
