@@ -1,5 +1,9 @@
 -- What the code's types stand for.
-use Rattle.std.specs.Prelude.{ℕ, List, Vec, map, Option, Some, None}
+use Rattle.std.specs.Prelude.{◌≡◌, ℕ, ◌+◌, ◌<◌, Vec, map, Bool, true, false, Option, Some, None}
+use Rattle.std.specs.Cmp.Lexicographic.{slice_cmp}
+use Rattle.std.specs.List.Sorted.{IsStrictlySortedBy}
+use Rattle.std.specs.Map.{keys_of}
+use Rattle.std.specs.Ordering.{nat_cmp}
 use Rattle.std.specs.declared.alloc.Global.{Global}
 use Rattle.ival.specs.declared.ends.Ival.{Ival}
 use Rattle.ival.specs.Views.{interval_of}
@@ -9,6 +13,7 @@ use Rattle.ival.specs.declared.space.Space.{Space}
 use Rattle.square_model.specs.Polynomial as model
 use Rattle.square_model.specs.Range.{apart_range, range_times}
 use Rattle.square_model.specs.Polynomial.{Monomial}
+use Rattle.squares.specs.declared.budget.Budget.{Budget}
 use Rattle.squares.specs.declared.polynomial.Polynomial.{Polynomial}
 use Rattle.squares.specs.declared.range.Factors.{Factors}
 
@@ -20,6 +25,10 @@ term_of e = (e.0.items, interval_of e.1)
 
 abbrev pub terms_of : Polynomial → model.Polynomial
 terms_of p = map term_of p.terms.entries
+
+-- the monomials ascend
+abbrev pub IsAscending : Polynomial → Type 0
+IsAscending p = IsStrictlySortedBy (λ v w. slice_cmp nat_cmp (axes_of v) (axes_of w)) (keys_of p.terms.entries)
 
 -- the sum of the value that is there, if one is, and this
 abbrev pub total : {X : Type 0} → (X → Interval) → Option X → Interval → Interval
@@ -33,3 +42,8 @@ apart_over space centre axis = apart_range (space_of space) (space_of centre) ax
 -- of the factors so far and these
 abbrev pub range_before : (ℕ → Interval) → Factors → Monomial → Interval
 range_before apart f m = range_times apart (interval_of f.range) f.waiting m
+
+-- so many steps are taken, if they are left
+abbrev pub Takes : ℕ → Budget → Budget → Bool → Type 0
+Takes n old new true = new.left + n ≡ old.left
+Takes n old new false = old.left < n

@@ -27,8 +27,8 @@ pub struct Polynomial {
 impl Polynomial {
     ghost use Rattle.std.specs.Prelude.{◌≡◌, [], length, IfOk, OnOk};
     ghost use Rattle.ival.specs.Views.{interval_of};
-    ghost use Rattle.square_model.specs.Polynomial.{given, multiple_given, polynomial_sum, polynomial_product, polynomial_negated};
-    ghost use Rattle.squares.specs.Views.{terms_of};
+    ghost use Rattle.square_model.specs.Polynomial.{given, multiple_given, is_short, polynomial_sum, polynomial_product, polynomial_negated};
+    ghost use Rattle.squares.specs.Views.{terms_of, IsAscending};
 
     /// The polynomial without monomials.
     pub fn new(alloc: Global) -> Self
@@ -44,6 +44,25 @@ impl Polynomial {
         ensures { result ≡ length (terms_of self.now) }
     {
         self.terms.len()
+    }
+
+    // A fact, and no work: the monomials ascend.
+    fn ascends(&self)
+        ensures { IsAscending self.now }
+    {
+        let _ = self.terms.len();
+    }
+
+    /// Whether no monomial has more than 32 axes.
+    pub fn is_short(&self) -> bool
+        ensures { result ≡ is_short (terms_of self.now) }
+    {
+        for (monomial, _coefficient) in &self.terms {
+            if monomial.len() > 32 {
+                return false;
+            }
+        }
+        true
     }
 
     /// Gives this much more to the coefficient of a monomial.
@@ -88,6 +107,7 @@ impl Polynomial {
         let mut sum = Polynomial::new(alloc);
         sum.add(alloc, self)?;
         sum.add(alloc, other)?;
+        self.ascends();
         Ok(sum)
     }
 
@@ -98,7 +118,7 @@ impl Polynomial {
     {
         let mut negated = Polynomial::new(alloc);
         negated.subtract(alloc, self)?;
-        let _ordered = self.len();
+        self.ascends();
         Ok(negated)
     }
 

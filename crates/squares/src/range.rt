@@ -1,5 +1,5 @@
 // The range of a polynomial over a space.
-ghost use Rattle.std.specs.Prelude.{◌≡◌, ◌∷◌};
+ghost use Rattle.std.specs.Prelude.{◌≡◌, [], ◌∷◌};
 ghost use Rattle.ival.specs.Views.{interval_of};
 ghost use Rattle.ival.specs.SpaceViews.{space_of};
 ghost use Rattle.square_model.specs.Polynomial.{Monomial};
