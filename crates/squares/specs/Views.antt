@@ -1,18 +1,19 @@
 -- What the code's types stand for.
-use Rattle.std.specs.Prelude.{◌≡◌, ℕ, ◌+◌, ◌<◌, Vec, map, Bool, true, false, Option, Some, None}
+use Rattle.std.specs.Prelude.{◌≡◌, ℕ, ◌+◌, ◌<◌, Vec, map, Bool, true, false, cond, Option, Some, None}
 use Rattle.std.specs.Cmp.Lexicographic.{slice_cmp}
 use Rattle.std.specs.List.Sorted.{IsStrictlySortedBy}
 use Rattle.std.specs.Map.{keys_of}
 use Rattle.std.specs.Ordering.{nat_cmp}
 use Rattle.std.specs.declared.alloc.Global.{Global}
+use Rattle.dyadic.specs.Rounding.{Dyadic}
 use Rattle.ival.specs.declared.ends.Ival.{Ival}
 use Rattle.ival.specs.Views.{interval_of}
-use Rattle.interval_model.specs.Interval.{Interval, interval_sum}
+use Rattle.interval_model.specs.Interval.{Interval, interval_sum, misses_nought}
 use Rattle.ival.specs.SpaceViews.{space_of}
 use Rattle.ival.specs.declared.space.Space.{Space}
 use Rattle.square_model.specs.Polynomial as model
 use Rattle.square_model.specs.Range.{apart_range, range_times}
-use Rattle.square_model.specs.Polynomial.{Monomial}
+use Rattle.square_model.specs.Polynomial.{Monomial, only, given}
 use Rattle.squares.specs.declared.budget.Budget.{Budget}
 use Rattle.squares.specs.declared.polynomial.Polynomial.{Polynomial}
 use Rattle.squares.specs.declared.range.Factors.{Factors}
@@ -47,3 +48,7 @@ range_before apart f m = range_times apart (interval_of f.range) f.waiting m
 abbrev pub Takes : ℕ → Budget → Budget → Bool → Type 0
 Takes n old new true = new.left + n ≡ old.left
 Takes n old new false = old.left < n
+
+-- the number is given to the monomial's coefficient, but no nought
+abbrev pub given_unless_nought : Monomial → Dyadic → model.Polynomial → model.Polynomial
+given_unless_nought m v q = cond (misses_nought (only v)) (given m (only v) q) q

@@ -19,34 +19,33 @@ impl Budget {
         Budget { left: MOST_STEPS }
     }
 
-    /// Takes so many steps, if they are left, and tells whether they were.
-    pub fn take(&mut self, steps: u64) -> bool
-        ensures { Takes steps self.old self.new result }
-    {
-        if self.left < steps {
-            return false;
-        }
-        self.left -= steps;
-        true
-    }
-
-    /// Takes the steps of a sum.
+    /// Takes the steps of a sum of polynomials, and tells whether so many were left.
     pub fn take_sum(&mut self, first: usize, second: usize) -> bool
         ensures { Takes (first + second) self.old self.new result }
     {
-        match (first as u64).checked_add(second as u64) {
-            Some(steps) => self.take(steps),
-            None => false,
+        let left = self.left;
+        let Some(steps) = (first as u64).checked_add(second as u64) else {
+            return false;
+        };
+        if left < steps {
+            return false;
         }
+        self.left = left - steps;
+        true
     }
 
-    /// Takes the steps of a product.
+    /// Takes the steps of a product of polynomials, and tells whether so many were left.
     pub fn take_product(&mut self, first: usize, second: usize) -> bool
         ensures { Takes (first * second) self.old self.new result }
     {
-        match (first as u64).checked_mul(second as u64) {
-            Some(steps) => self.take(steps),
-            None => false,
+        let left = self.left;
+        let Some(steps) = (first as u64).checked_mul(second as u64) else {
+            return false;
+        };
+        if left < steps {
+            return false;
         }
+        self.left = left - steps;
+        true
     }
 }

@@ -2,6 +2,7 @@
 //! atom's value lies in its range.
 #![tactic(auto)]
 
+mod block;
 mod budget;
 mod monomial;
 mod number;

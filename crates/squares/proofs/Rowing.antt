@@ -1,0 +1,64 @@
+-- The rows of a block, one place after the other.
+use Rattle.std.proofs.Common.{◌≡◌, ℕ, suc, zero, ◌+◌, ◌*◌, ◌<◌, ◌≤◌, List, [], ◌∷◌, Vec, map, length, get_or, drop, drop-cons, cond, min, refl, ap, ap₂, sym, ◌∙◌, arith}
+use Rattle.std.specs.declared.alloc.Global.{Global}
+use Rattle.dyadic.specs.Rounding.{Dyadic}
+use Rattle.dyadic.specs.Views.{dyadic_of}
+use Rattle.dyadic.specs.declared.dy.Dy.{Dy}
+use Rattle.square_model.specs.Polynomial.{Monomial, Polynomial}
+use Rattle.square_model.specs.Block.{row_given, row_polynomial, squares_with}
+use Rattle.square_model.specs.Steps.{Counted, counted_sum, counted_product}
+use Rattle.squares.specs.Views.{axes_of, given_unless_nought}
+use Rattle.squares.specs.Blocks.{numbers_of}
+
+-- ---- a row
+
+no-numbers : (ms : List Monomial) (q : Polynomial) → row_given ms [] q ≡ q
+no-numbers [] q = refl
+no-numbers (m ∷ ms) q = refl
+
+no-monomials : (vs : List Dyadic) (q : Polynomial) → row_given [] vs q ≡ q
+no-monomials vs q = refl
+
+pub row_done : (ms : List (Vec ℕ Global)) (vs : List Dy) (k : ℕ) (q : Polynomial) → min (length ms) (length vs) ≤ k → row_given (map axes_of (drop k ms)) (map dyadic_of (drop k vs)) q ≡ q
+row_done [] vs zero q h = refl
+row_done [] vs (suc k) q h = refl
+row_done (m ∷ ms) [] zero q h = refl
+row_done (m ∷ ms) [] (suc k) q h = no-numbers (map axes_of (drop k ms)) q
+row_done (m ∷ ms) (v ∷ vs) zero q h = absurd (omega arith)
+row_done (m ∷ ms) (v ∷ vs) (suc k) q h = row_done ms vs k q (omega arith)
+
+pub row_next : (ms : List (Vec ℕ Global)) (vs : List Dy) (k : ℕ) (m : Vec ℕ Global) (v : Dy) (q : Polynomial) → k < length ms → k < length vs →
+    row_given (map axes_of (drop k ms)) (map dyadic_of (drop k vs)) q
+    ≡ row_given (map axes_of (drop (suc k) ms)) (map dyadic_of (drop (suc k) vs)) (given_unless_nought (axes_of (get_or ms k m)) (dyadic_of (get_or vs k v)) q)
+row_next ms vs k m v q h l = ap₂ (λ (ns : List (Vec ℕ Global)) (us : List Dy). row_given (map axes_of ns) (map dyadic_of us) q) (drop-cons ms k m h) (drop-cons vs k v l)
+
+-- ---- the squares
+
+no-rows : (ms : List Monomial) (q : Counted) → squares_with ms [] q ≡ q
+no-rows [] q = refl
+no-rows (m ∷ ms) q = refl
+
+pub squares_done : (ms : List (Vec ℕ Global)) (rows : List (Vec Dy Global)) (k : ℕ) (q : Counted) → min (length ms) (length rows) ≤ k → squares_with (map axes_of (drop k ms)) (map numbers_of (drop k rows)) q ≡ q
+squares_done [] rows zero q h = refl
+squares_done [] rows (suc k) q h = refl
+squares_done (m ∷ ms) [] zero q h = refl
+squares_done (m ∷ ms) [] (suc k) q h = no-rows (map axes_of (drop k ms)) q
+squares_done (m ∷ ms) (r ∷ rows) zero q h = absurd (omega arith)
+squares_done (m ∷ ms) (r ∷ rows) (suc k) q h = squares_done ms rows k q (omega arith)
+
+-- with the square of this row
+abbrev pub with_square : List Monomial → List Dyadic → Counted → Counted
+with_square ms vs q = counted_sum q (counted_product (row_polynomial ms vs) (row_polynomial ms vs))
+
+pub squares_next : (ms : List (Vec ℕ Global)) (rows : List (Vec Dy Global)) (k : ℕ) (m : Vec ℕ Global) (r : Vec Dy Global) (q : Counted) → k < length ms → k < length rows →
+    squares_with (map axes_of (drop k ms)) (map numbers_of (drop k rows)) q
+    ≡ squares_with (map axes_of (drop (suc k) ms)) (map numbers_of (drop (suc k) rows)) (with_square (map axes_of (drop k ms)) (numbers_of (get_or rows k r)) q)
+squares_next ms rows k m r q h l =
+    ap₂ (λ (ns : List (Vec ℕ Global)) (rs : List (Vec Dy Global)). squares_with (map axes_of ns) (map numbers_of rs) q) (drop-cons ms k m h) (drop-cons rows k r l)
+    ∙ ap (λ (ns : List (Vec ℕ Global)). squares_with (map axes_of (drop (suc k) ms)) (map numbers_of (drop (suc k) rows)) (with_square (map axes_of ns) (numbers_of (get_or rows k r)) q)) (sym (drop-cons ms k m h))
+
+-- steps only grow
+pub squares_grow : (ms : List Monomial) (rows : List (List Dyadic)) (q : Counted) → q.steps ≤ (squares_with ms rows q).steps
+squares_grow [] rows q = omega arith
+squares_grow (m ∷ ms) [] q = omega arith
+squares_grow (m ∷ ms) (vs ∷ rows) q = let h = squares_grow ms rows (with_square (m ∷ ms) vs q) in omega (arith, h)

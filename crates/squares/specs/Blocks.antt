@@ -1,0 +1,33 @@
+-- Blocks in code, and what comes of them.
+use Rattle.std.specs.Prelude.{◌≡◌, ℕ, ◌+◌, ◌<◌, List, [], Vec, map, Option, Some, None}
+use Rattle.std.specs.declared.alloc.Global.{Global}
+use Rattle.dyadic.specs.Rounding.{Dyadic}
+use Rattle.dyadic.specs.Views.{dyadic_of}
+use Rattle.dyadic.specs.declared.dy.Dy.{Dy}
+use Rattle.square_model.specs.Block as model
+use Rattle.square_model.specs.Block.{squares_with}
+use Rattle.square_model.specs.Steps.{Counted, counted}
+use Rattle.squares.specs.Views.{axes_of, terms_of}
+use Rattle.squares.specs.declared.block.Block.{Block}
+use Rattle.squares.specs.declared.block.Factor.{Factor}
+use Rattle.squares.specs.declared.block.Factor.TheVariants.{One, BoundOf}
+use Rattle.squares.specs.declared.budget.Budget.{Budget}
+use Rattle.squares.specs.declared.polynomial.Polynomial.{Polynomial}
+
+abbrev pub numbers_of : Vec Dy Global → List Dyadic
+numbers_of v = map dyadic_of v.items
+
+abbrev pub factor_of : Factor → model.Factor
+factor_of One = model.no_factor
+factor_of (BoundOf axis) = model.bound_of axis
+
+abbrev pub block_of : Block → model.Block
+block_of b = record { factor = factor_of b.factor; monomials = map axes_of b.monomials.items; rows = map numbers_of b.rows.items }
+
+-- the polynomial with its steps taken, none where fewer were left
+abbrev pub ComesTo : Counted → Budget → Budget → Option Polynomial → Type 0
+ComesTo a old new None = old.left < a.steps
+ComesTo a old new (Some p) = (terms_of p ≡ a.polynomial) × (new.left + a.steps ≡ old.left)
+
+abbrev pub AddsSquares : Block → Budget → Budget → Option Polynomial → Type 0
+AddsSquares b old new p = ComesTo (squares_with (map axes_of b.monomials.items) (map numbers_of b.rows.items) (counted [])) old new p

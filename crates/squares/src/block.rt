@@ -1,0 +1,97 @@
+// Blocks of squares.
+ghost use Rattle.std.specs.Prelude.{◌≡◌, [], map, IfOk, OnOk};
+ghost use Rattle.dyadic.specs.Views.{dyadic_of};
+ghost use Rattle.interval_model.specs.Interval.{misses_nought};
+ghost use Rattle.square_model.specs.Polynomial.{only};
+ghost use Rattle.square_model.specs.Block.{row_given};
+ghost use Rattle.squares.specs.Views.{axes_of, terms_of, given_unless_nought};
+ghost use Rattle.squares.specs.Blocks.{AddsSquares};
+
+use crate::budget::Budget;
+use crate::number::only;
+use crate::polynomial::Polynomial;
+use dyadic::Dy;
+use std::alloc::{AllocError, Global};
+
+/// What the squares of a block are times.
+#[derive(Clone, Copy, Debug, PartialEq, Eq)]
+pub enum Factor {
+    /// 1.
+    One,
+    /// `h - d^2`, where `d` is the difference of this axis to the centre, and `h` the greatest of `d^2`.
+    BoundOf(u32),
+}
+
+/// A block of squares. Row k has the coefficients of the root of square k, of monomial k and those after it.
+#[derive(Drop)]
+pub struct Block {
+    pub factor: Factor,
+    pub monomials: Vec<Vec<u32>>,
+    pub rows: Vec<Vec<Dy>>,
+}
+
+// Whether the number is another one than 0.
+fn is_other_than_nought(number: Dy) -> bool
+    ensures { result ≡ misses_nought (only (dyadic_of number)) }
+{
+    !number.is_zero()
+}
+
+// Gives the number to the coefficient of the monomial, but no 0.
+fn give_unless_nought(
+    alloc: Global,
+    monomial: &[u32],
+    number: Dy,
+    polynomial: &mut Polynomial,
+) -> Result<(), AllocError>
+    ensures { OnOk result (terms_of polynomial.new ≡
+        given_unless_nought monomial.now (dyadic_of number) (terms_of polynomial.old)) }
+{
+    if !is_other_than_nought(number) {
+        return Ok(());
+    }
+    let axes = Vec::from_slice(alloc, monomial)?;
+    polynomial.give(axes, only(number))?;
+    Ok(())
+}
+
+// The root of a square: the sum of these monomials, each times its number.
+fn root(
+    alloc: Global,
+    monomials: &[Vec<u32>],
+    numbers: &[Dy],
+) -> Result<Polynomial, AllocError>
+    ensures { IfOk result (λ p. terms_of p ≡
+        row_given (map axes_of monomials.now) (map dyadic_of numbers.now) []) }
+{
+    let mut root = Polynomial::new(alloc);
+    let count = monomials.len().min(numbers.len());
+    for place in 0..count {
+        give_unless_nought(alloc, &monomials[place], numbers[place], &mut root)?;
+    }
+    Ok(root)
+}
+
+/// The sum of the squares of a block, or none where too few steps are left.
+pub fn squares(
+    alloc: Global,
+    block: &Block,
+    budget: &mut Budget,
+) -> Result<Option<Polynomial>, AllocError>
+    ensures { IfOk result (AddsSquares block.now budget.old budget.new) }
+{
+    let mut sum = Polynomial::new(alloc);
+    let count = block.monomials.len().min(block.rows.len());
+    for place in 0..count {
+        let root = root(alloc, &block.monomials[place..], &block.rows[place])?;
+        if !budget.take_product(root.len(), root.len()) {
+            return Ok(None);
+        }
+        let square = Polynomial::product(alloc, &root, &root)?;
+        if !budget.take_sum(sum.len(), square.len()) {
+            return Ok(None);
+        }
+        sum.add(alloc, &square)?;
+    }
+    Ok(Some(sum))
+}
