@@ -1,4 +1,5 @@
 pub mod Copying
+pub mod Factoring
 pub mod Giving
 pub mod Placing
 pub mod Rowing

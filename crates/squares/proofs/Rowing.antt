@@ -27,11 +27,6 @@ row_done (m ∷ ms) [] (suc k) q h = no-numbers (map axes_of (drop k ms)) q
 row_done (m ∷ ms) (v ∷ vs) zero q h = absurd (omega arith)
 row_done (m ∷ ms) (v ∷ vs) (suc k) q h = row_done ms vs k q (omega arith)
 
-pub row_next : (ms : List (Vec ℕ Global)) (vs : List Dy) (k : ℕ) (m : Vec ℕ Global) (v : Dy) (q : Polynomial) → k < length ms → k < length vs →
-    row_given (map axes_of (drop k ms)) (map dyadic_of (drop k vs)) q
-    ≡ row_given (map axes_of (drop (suc k) ms)) (map dyadic_of (drop (suc k) vs)) (given_unless_nought (axes_of (get_or ms k m)) (dyadic_of (get_or vs k v)) q)
-row_next ms vs k m v q h l = ap₂ (λ (ns : List (Vec ℕ Global)) (us : List Dy). row_given (map axes_of ns) (map dyadic_of us) q) (drop-cons ms k m h) (drop-cons vs k v l)
-
 -- ---- the squares
 
 no-rows : (ms : List Monomial) (q : Counted) → squares_with ms [] q ≡ q
@@ -50,15 +45,29 @@ squares_done (m ∷ ms) (r ∷ rows) (suc k) q h = squares_done ms rows k q (ome
 abbrev pub with_square : List Monomial → List Dyadic → Counted → Counted
 with_square ms vs q = counted_sum q (counted_product (row_polynomial ms vs) (row_polynomial ms vs))
 
-pub squares_next : (ms : List (Vec ℕ Global)) (rows : List (Vec Dy Global)) (k : ℕ) (m : Vec ℕ Global) (r : Vec Dy Global) (q : Counted) → k < length ms → k < length rows →
+pub squares_next : (ms : List (Vec ℕ Global)) (rows : List (Vec Dy Global)) (k : ℕ) (r : Vec Dy Global) (q : Counted) → k < length ms → k < length rows →
     squares_with (map axes_of (drop k ms)) (map numbers_of (drop k rows)) q
-    ≡ squares_with (map axes_of (drop (suc k) ms)) (map numbers_of (drop (suc k) rows)) (with_square (map axes_of (drop k ms)) (numbers_of (get_or rows k r)) q)
-squares_next ms rows k m r q h l =
-    ap₂ (λ (ns : List (Vec ℕ Global)) (rs : List (Vec Dy Global)). squares_with (map axes_of ns) (map numbers_of rs) q) (drop-cons ms k m h) (drop-cons rows k r l)
-    ∙ ap (λ (ns : List (Vec ℕ Global)). squares_with (map axes_of (drop (suc k) ms)) (map numbers_of (drop (suc k) rows)) (with_square (map axes_of ns) (numbers_of (get_or rows k r)) q)) (sym (drop-cons ms k m h))
+    ≡ squares_with (map axes_of (drop (k + 1) ms)) (map numbers_of (drop (k + 1) rows)) (with_square (map axes_of (drop k ms)) (numbers_of (get_or rows k r)) q)
+squares_next [] rows k r q h l = absurd (omega arith)
+squares_next (m ∷ ms) [] k r q h l = absurd (omega arith)
+squares_next (m ∷ ms) (r0 ∷ rows) zero r q h l = refl
+squares_next (m ∷ ms) (r0 ∷ rows) (suc k) r q h l = let next : suc (k + 1) ≡ suc k + 1 = omega arith in
+    squares_next ms rows k r q (omega arith) (omega arith)
+    ∙ ap (λ (j : ℕ). squares_with (map axes_of (drop j (m ∷ ms))) (map numbers_of (drop j (r0 ∷ rows))) (with_square (map axes_of (drop k ms)) (numbers_of (get_or rows k r)) q)) next
 
 -- steps only grow
 pub squares_grow : (ms : List Monomial) (rows : List (List Dyadic)) (q : Counted) → q.steps ≤ (squares_with ms rows q).steps
 squares_grow [] rows q = omega arith
 squares_grow (m ∷ ms) [] q = omega arith
 squares_grow (m ∷ ms) (vs ∷ rows) q = let h = squares_grow ms rows (with_square (m ∷ ms) vs q) in omega (arith, h)
+
+-- ---- in numbers: what was left, what is taken, and the steps of the square and of the sum with it
+
+pub over_product : (b left taken m n r t w : ℕ) → left + taken ≡ b → left < m * n → m ≡ r → n ≡ r → (taken + ((0 + 0) + r * r)) + t ≤ w → b < w
+over_product b left taken m n r t w h l e f g = let p = ap₂ (λ (x y : ℕ). x * y) e f in omega (arith, h, l, g, p)
+
+pub over_sum : (b left taken after m n r s q i j w : ℕ) → left + taken ≡ b → after + m * n ≡ left → after < i + j → m ≡ r → n ≡ r → i ≡ s → j ≡ q → (taken + ((0 + 0) + r * r)) + (s + q) ≤ w → b < w
+over_sum b left taken after m n r s q i j w h k l e f e' f' g = let p = ap₂ (λ (x y : ℕ). x * y) e f in omega (arith, h, k, l, e', f', g, p)
+
+pub balanced : (b left taken after last m n r s q i j : ℕ) → left + taken ≡ b → after + m * n ≡ left → last + (i + j) ≡ after → m ≡ r → n ≡ r → i ≡ s → j ≡ q → last + ((taken + ((0 + 0) + r * r)) + (s + q)) ≡ b
+balanced b left taken after last m n r s q i j h k l e f e' f' = let p = ap₂ (λ (x y : ℕ). x * y) e f in omega (arith, h, k, l, e', f', p)
