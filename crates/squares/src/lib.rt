@@ -5,6 +5,7 @@
 mod block;
 mod budget;
 mod monomial;
+mod node;
 mod number;
 mod polynomial;
 mod range;

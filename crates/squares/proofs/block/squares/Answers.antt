@@ -1,4 +1,5 @@
 use Rattle.std.proofs.Common.{◌≡◌, ℕ, ◌+◌, ◌<◌, ◌≤◌, List, Vec, [], map, length, get_or, drop, ap, ap₂, sym, subst, ◌∙◌, arith}
+use Rattle.std.proofs.lemmas.List.{take_rest}
 use Rattle.std.specs.declared.alloc.Global.{Global}
 use Rattle.dyadic.specs.Views.{dyadic_of}
 use Rattle.dyadic.specs.declared.dy.Dy.{Dy}
@@ -18,7 +19,7 @@ returns-then-not-take_product c =
     let root : Polynomial = row_given (map axes_of (drop k ms)) (numbers_of (get_or rows k r)) [] in
     let l : k < length ms = omega (arith, c.loop-place-test.true, c.min-count.ensures, c.len.ensures, c.len-2.ensures) in
     let l' : k < length rows = omega (arith, c.loop-place-test.true, c.min-count.ensures, c.len.ensures, c.len-2.ensures) in
-    let is : terms_of c.in_ok-root.root ≡ root = c.in_ok-root.ensures
+    let is : terms_of c.in_ok-root.root ≡ root = c.in_ok-root.ensures ∙ ap (λ (ns : List (Vec ℕ Global)). row_given (map axes_of ns) (map dyadic_of c.deref-in-loop-place.result.now) []) (take_rest c.deref.result.now k)
         ∙ ap₂ (λ (ns : List (Vec ℕ Global)) (vs : List Dy). row_given (map axes_of (drop k ns)) (map dyadic_of vs) []) c.deref.ensures.value (c.deref-in-loop-place.ensures.value ∙ ap (λ (v : Vec Dy Global). v.items) c.index.ensures) in
     let next = with_square (map axes_of (drop k ms)) (numbers_of (get_or rows k r)) q in
     let grown : next.steps ≤ (squares_with (map axes_of ms) (map numbers_of rows) (counted [])).steps = subst (λ (a : Counted). next.steps ≤ a.steps) (sym (squares_next ms rows k r q l l') ∙ before.2) (squares_grow (map axes_of (drop (k + 1) ms)) (map numbers_of (drop (k + 1) rows)) next) in
@@ -32,7 +33,7 @@ returns-then-not-take_sum c =
     let root : Polynomial = row_given (map axes_of (drop k ms)) (numbers_of (get_or rows k r)) [] in
     let l : k < length ms = omega (arith, c.loop-place-test.true, c.min-count.ensures, c.len.ensures, c.len-2.ensures) in
     let l' : k < length rows = omega (arith, c.loop-place-test.true, c.min-count.ensures, c.len.ensures, c.len-2.ensures) in
-    let is : terms_of c.in_ok-root.root ≡ root = c.in_ok-root.ensures
+    let is : terms_of c.in_ok-root.root ≡ root = c.in_ok-root.ensures ∙ ap (λ (ns : List (Vec ℕ Global)). row_given (map axes_of ns) (map dyadic_of c.deref-in-loop-place.result.now) []) (take_rest c.deref.result.now k)
         ∙ ap₂ (λ (ns : List (Vec ℕ Global)) (vs : List Dy). row_given (map axes_of (drop k ns)) (map dyadic_of vs) []) c.deref.ensures.value (c.deref-in-loop-place.ensures.value ∙ ap (λ (v : Vec Dy Global). v.items) c.index.ensures) in
     let square : terms_of c.in_ok-square.square ≡ polynomial_product root root = c.in_ok-square.ensures ∙ ap (λ (p : Polynomial). polynomial_product p p) is in
     let next = with_square (map axes_of (drop k ms)) (numbers_of (get_or rows k r)) q in
@@ -48,7 +49,7 @@ loop-place-preserved c =
     let root : Polynomial = row_given (map axes_of (drop k ms)) (numbers_of (get_or rows k r)) [] in
     let l : k < length ms = omega (arith, c.loop-place-test.true, c.min-count.ensures, c.len.ensures, c.len-2.ensures) in
     let l' : k < length rows = omega (arith, c.loop-place-test.true, c.min-count.ensures, c.len.ensures, c.len-2.ensures) in
-    let is : terms_of c.in_ok-root.root ≡ root = c.in_ok-root.ensures
+    let is : terms_of c.in_ok-root.root ≡ root = c.in_ok-root.ensures ∙ ap (λ (ns : List (Vec ℕ Global)). row_given (map axes_of ns) (map dyadic_of c.deref-in-loop-place.result.now) []) (take_rest c.deref.result.now k)
         ∙ ap₂ (λ (ns : List (Vec ℕ Global)) (vs : List Dy). row_given (map axes_of (drop k ns)) (map dyadic_of vs) []) c.deref.ensures.value (c.deref-in-loop-place.ensures.value ∙ ap (λ (v : Vec Dy Global). v.items) c.index.ensures) in
     let square : terms_of c.in_ok-square.square ≡ polynomial_product root root = c.in_ok-square.ensures ∙ ap (λ (p : Polynomial). polynomial_product p p) is in
     let next = with_square (map axes_of (drop k ms)) (numbers_of (get_or rows k r)) q in
