@@ -6,10 +6,10 @@ use Rattle.std.specs.List.Sorted.{IsStrictlySortedBy}
 use Rattle.std.specs.Map.{keys_of}
 use Rattle.std.specs.Ordering.{nat_cmp, ordering_reverse}
 use Rattle.std.specs.declared.cmp.Ordering.{Ordering}
-use Rattle.std.specs.declared.cmp.Ordering.TheVariants.{Less, Equal, Greater}
+use Rattle.std.specs.declared.cmp.Ordering.TheVariants.{Less}
 use Rattle.std.proofs.lemmas.Map.Keys.{sorted_head, sorted_tail}
 use Rattle.interval_model.specs.Interval.{Interval, interval_negated}
-use Rattle.square_model.specs.Polynomial.{Monomial, Polynomial, placed, given, opposite, polynomial_negated, polynomial_sum}
+use Rattle.square_model.specs.Polynomial.{Monomial, Polynomial, placed, given, polynomial_negated, polynomial_sum}
 use Rattle.squares.proofs.Giving.{term, by_axes}
 
 module _ {K X : Type 0} (f : K → Monomial) (g : X → Interval) where

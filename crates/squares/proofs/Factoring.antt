@@ -1,5 +1,5 @@
 -- A factor behind the squares.
-use Rattle.std.proofs.Common.{◌≡◌, ℕ, ◌+◌, ◌*◌, ◌<◌, ◌≤◌, length, Option, Some, None, ap, sym, subst, ◌∙◌, arith}
+use Rattle.std.proofs.Common.{◌*◌, ◌<◌, length, Option, Some, None, ap, ◌∙◌, arith}
 use Rattle.ival.specs.SpaceViews.{space_of}
 use Rattle.ival.specs.declared.space.Space.{Space}
 use Rattle.square_model.specs.Polynomial as model

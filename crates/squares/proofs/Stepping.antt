@@ -1,5 +1,5 @@
 -- The range of a monomial, one axis after the other.
-use Rattle.std.proofs.Common.{◌≡◌, ℕ, ◌∷◌, Bool, true, false, cond, Option, Some, None, ap, arith, nat_eq}
+use Rattle.std.proofs.Common.{◌≡◌, ℕ, ◌∷◌, Bool, true, false, cond, Some, None, ap, arith, nat_eq}
 use Rattle.std.proofs.lemmas.Bool.Decides.{nat_tests}
 use Rattle.interval_model.specs.Interval.{Interval, interval_product, interval_square}
 use Rattle.square_model.specs.Polynomial.{Monomial}

@@ -60,11 +60,7 @@ fn give_unless_nought(
 }
 
 // The root of a square: the sum of these monomials, each times its number.
-fn root(
-    alloc: Global,
-    monomials: &[Vec<u32>],
-    numbers: &[Dy],
-) -> Result<Polynomial, AllocError>
+fn root(alloc: Global, monomials: &[Vec<u32>], numbers: &[Dy]) -> Result<Polynomial, AllocError>
     ensures { IfOk result (λ p. terms_of p ≡
         row_given (map axes_of monomials.now) (map dyadic_of numbers.now) []) }
 {

@@ -1,5 +1,8 @@
-//! Computes sums of squares: polynomials about a centre, and the condition by which a space has no point at which each
-//! atom's value lies in its range.
+//! Sums of squares, computed: polynomials about the centre of a space with intervals for coefficients.
+//!
+//! [`Polynomial`] has sums, products and opposites, and [`polynomial_range`] its range over a space. [`node_polynomial`] is
+//! the polynomial of a node from those of its children, and [`block_polynomial`] that of a block of squares. Steps are taken
+//! from a [`Budget`], and where too few are left there is no polynomial.
 #![tactic(auto)]
 
 mod block;
@@ -9,3 +12,9 @@ mod node;
 mod number;
 mod polynomial;
 mod range;
+
+pub use block::{Block, Factor, block_polynomial};
+pub use budget::Budget;
+pub use node::{constant, node_polynomial, take_node};
+pub use polynomial::Polynomial;
+pub use range::polynomial_range;

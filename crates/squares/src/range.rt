@@ -75,7 +75,7 @@ fn monomial_range(space: &Space, centre: &Space, monomial: &[u32]) -> Ival
 }
 
 /// The range of a polynomial.
-pub fn range(space: &Space, centre: &Space, polynomial: &Polynomial) -> Ival
+pub fn polynomial_range(space: &Space, centre: &Space, polynomial: &Polynomial) -> Ival
     ensures { interval_of result ≡
         polynomial_range (apart_over space.now centre.now) (terms_of polynomial.now) }
 {

@@ -20,7 +20,7 @@ returns-then-not-take_product c =
     let l : k < length ms = omega (arith, c.loop-place-test.true, c.min-count.ensures, c.len.ensures, c.len-2.ensures) in
     let l' : k < length rows = omega (arith, c.loop-place-test.true, c.min-count.ensures, c.len.ensures, c.len-2.ensures) in
     let is : terms_of c.in_ok-root.root ≡ root = c.in_ok-root.ensures ∙ ap (λ (ns : List (Vec ℕ Global)). row_given (map axes_of ns) (map dyadic_of c.deref-in-loop-place.result.now) []) (take_rest c.deref.result.now k)
-        ∙ ap₂ (λ (ns : List (Vec ℕ Global)) (vs : List Dy). row_given (map axes_of (drop k ns)) (map dyadic_of vs) []) c.deref.ensures.value (c.deref-in-loop-place.ensures.value ∙ ap (λ (v : Vec Dy Global). v.items) c.index.ensures) in
+    ∙ ap₂ (λ (ns : List (Vec ℕ Global)) (vs : List Dy). row_given (map axes_of (drop k ns)) (map dyadic_of vs) []) c.deref.ensures.value (c.deref-in-loop-place.ensures.value ∙ ap (λ (v : Vec Dy Global). v.items) c.index.ensures) in
     let next = with_square (map axes_of (drop k ms)) (numbers_of (get_or rows k r)) q in
     let grown : next.steps ≤ (squares_with (map axes_of ms) (map numbers_of rows) (counted [])).steps = subst (λ (a : Counted). next.steps ≤ a.steps) (sym (squares_next ms rows k r q l l') ∙ before.2) (squares_grow (map axes_of (drop (k + 1) ms)) (map numbers_of (drop (k + 1) rows)) next) in
     over_product _ _ before.0 _ _ (length root) (length sum + length (polynomial_product root root)) _ before.1 c.if-not-take_product.ensures (c.len-in-loop-place.ensures ∙ ap length is) (c.len-in-loop-place-2.ensures ∙ ap length is) grown
@@ -34,7 +34,7 @@ returns-then-not-take_sum c =
     let l : k < length ms = omega (arith, c.loop-place-test.true, c.min-count.ensures, c.len.ensures, c.len-2.ensures) in
     let l' : k < length rows = omega (arith, c.loop-place-test.true, c.min-count.ensures, c.len.ensures, c.len-2.ensures) in
     let is : terms_of c.in_ok-root.root ≡ root = c.in_ok-root.ensures ∙ ap (λ (ns : List (Vec ℕ Global)). row_given (map axes_of ns) (map dyadic_of c.deref-in-loop-place.result.now) []) (take_rest c.deref.result.now k)
-        ∙ ap₂ (λ (ns : List (Vec ℕ Global)) (vs : List Dy). row_given (map axes_of (drop k ns)) (map dyadic_of vs) []) c.deref.ensures.value (c.deref-in-loop-place.ensures.value ∙ ap (λ (v : Vec Dy Global). v.items) c.index.ensures) in
+    ∙ ap₂ (λ (ns : List (Vec ℕ Global)) (vs : List Dy). row_given (map axes_of (drop k ns)) (map dyadic_of vs) []) c.deref.ensures.value (c.deref-in-loop-place.ensures.value ∙ ap (λ (v : Vec Dy Global). v.items) c.index.ensures) in
     let square : terms_of c.in_ok-square.square ≡ polynomial_product root root = c.in_ok-square.ensures ∙ ap (λ (p : Polynomial). polynomial_product p p) is in
     let next = with_square (map axes_of (drop k ms)) (numbers_of (get_or rows k r)) q in
     let grown : next.steps ≤ (squares_with (map axes_of ms) (map numbers_of rows) (counted [])).steps = subst (λ (a : Counted). next.steps ≤ a.steps) (sym (squares_next ms rows k r q l l') ∙ before.2) (squares_grow (map axes_of (drop (k + 1) ms)) (map numbers_of (drop (k + 1) rows)) next) in
@@ -50,14 +50,15 @@ loop-place-preserved c =
     let l : k < length ms = omega (arith, c.loop-place-test.true, c.min-count.ensures, c.len.ensures, c.len-2.ensures) in
     let l' : k < length rows = omega (arith, c.loop-place-test.true, c.min-count.ensures, c.len.ensures, c.len-2.ensures) in
     let is : terms_of c.in_ok-root.root ≡ root = c.in_ok-root.ensures ∙ ap (λ (ns : List (Vec ℕ Global)). row_given (map axes_of ns) (map dyadic_of c.deref-in-loop-place.result.now) []) (take_rest c.deref.result.now k)
-        ∙ ap₂ (λ (ns : List (Vec ℕ Global)) (vs : List Dy). row_given (map axes_of (drop k ns)) (map dyadic_of vs) []) c.deref.ensures.value (c.deref-in-loop-place.ensures.value ∙ ap (λ (v : Vec Dy Global). v.items) c.index.ensures) in
+    ∙ ap₂ (λ (ns : List (Vec ℕ Global)) (vs : List Dy). row_given (map axes_of (drop k ns)) (map dyadic_of vs) []) c.deref.ensures.value (c.deref-in-loop-place.ensures.value ∙ ap (λ (v : Vec Dy Global). v.items) c.index.ensures) in
     let square : terms_of c.in_ok-square.square ≡ polynomial_product root root = c.in_ok-square.ensures ∙ ap (λ (p : Polynomial). polynomial_product p p) is in
-    let next = with_square (map axes_of (drop k ms)) (numbers_of (get_or rows k r)) q in
-    (next.steps,
-    balanced _ _ before.0 _ _ _ _ (length root) (length sum) (length (polynomial_product root root)) _ _ before.1 c.if-not-take_product.ensures c.if-not-take_sum.ensures (c.len-in-loop-place.ensures ∙ ap length is) (c.len-in-loop-place-2.ensures ∙ ap length is)
-    c.len-in-loop-place-3.ensures (c.len-in-loop-place-4.ensures ∙ ap length square),
-    ap (λ (p : Polynomial). squares_with (map axes_of (drop (k + 1) ms)) (map numbers_of (drop (k + 1) rows)) (record { polynomial = p; steps = next.steps })) (c.in_ok-add.ensures ∙ ap (polynomial_sum sum) square)
-    ∙ sym (squares_next ms rows k r q l l') ∙ before.2)
+    let next = with_square (map axes_of (drop k ms)) (numbers_of (get_or rows k r)) q in (
+      next.steps,
+      balanced _ _ before.0 _ _ _ _ (length root) (length sum) (length (polynomial_product root root)) _ _ before.1 c.if-not-take_product.ensures c.if-not-take_sum.ensures (c.len-in-loop-place.ensures ∙ ap length is) (c.len-in-loop-place-2.ensures ∙ ap length is)
+          c.len-in-loop-place-3.ensures (c.len-in-loop-place-4.ensures ∙ ap length square),
+      ap (λ (p : Polynomial). squares_with (map axes_of (drop (k + 1) ms)) (map numbers_of (drop (k + 1) rows)) (record { polynomial = p; steps = next.steps })) (c.in_ok-add.ensures ∙ ap (polynomial_sum sum) square)
+          ∙ sym (squares_next ms rows k r q l l') ∙ before.2,
+    )
 
 pub returns : goal.returns
 returns c =

@@ -1,5 +1,4 @@
 use Rattle.std.proofs.Common.{ap, ◌∙◌}
-use Rattle.dyadic.specs.Rounding.{Dyadic}
 use Rattle.dyadic.specs.End.{negated_dyadic}
 use Rattle.square_model.specs.Polynomial.{only}
 use Rattle.squares.proofs.number.minus_one.Goals as goal

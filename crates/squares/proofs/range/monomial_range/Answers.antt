@@ -1,4 +1,4 @@
-use Rattle.std.proofs.Common.{◌≡◌, suc, ◌+◌, ◌∷◌, length, get_or, drop, drop-cons, ap, sym, ◌∙◌, arith, ℕ}
+use Rattle.std.proofs.Common.{◌≡◌, suc, ◌+◌, ◌∷◌, get_or, drop, drop-cons, ap, sym, ◌∙◌, arith, ℕ}
 use Rattle.square_model.specs.Polynomial.{Monomial}
 use Rattle.squares.specs.Views.{apart_over, range_before}
 use Rattle.squares.proofs.range.monomial_range.Goals as goal

@@ -1,5 +1,5 @@
 use Rattle.std.proofs.Common.{◌≡◌, map}
-use Rattle.square_model.specs.Polynomial.{polynomial_negated, polynomial_sum}
+use Rattle.square_model.specs.Polynomial.{polynomial_sum}
 use Rattle.squares.specs.Views.{term_of, terms_of}
 use Rattle.squares.proofs.polynomial.Polynomial.add.Given as goal
 

@@ -1,4 +1,4 @@
-use Rattle.std.proofs.Common.{map, ap, sym, ◌∙◌, Option}
+use Rattle.std.proofs.Common.{map, ap, ◌∙◌, Option}
 use Rattle.ival.specs.declared.ends.Ival.{Ival}
 use Rattle.ival.specs.Views.{interval_of}
 use Rattle.squares.specs.Views.{term_of, axes_of, total}
