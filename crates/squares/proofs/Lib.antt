@@ -4,3 +4,4 @@ pub mod Giving
 pub mod Placing
 pub mod Rowing
 pub mod Stepping
+pub mod Unfolding

@@ -7,6 +7,7 @@
 
 mod block;
 mod budget;
+mod expand;
 mod monomial;
 mod node;
 mod number;
