@@ -1,3 +1,4 @@
+pub mod Advancing
 pub mod Copying
 pub mod Factoring
 pub mod Giving

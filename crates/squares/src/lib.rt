@@ -16,6 +16,7 @@ mod range;
 
 pub use block::{Block, Factor, block_polynomial};
 pub use budget::Budget;
+pub use expand::expand_nodes;
 pub use node::{constant, node_polynomial, take_node};
 pub use polynomial::Polynomial;
 pub use range::polynomial_range;
