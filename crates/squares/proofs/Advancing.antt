@@ -1,5 +1,5 @@
 -- One node more of an expansion.
-use Rattle.std.proofs.Common.{◌≡◌, ℕ, suc, zero, ◌+◌, ◌-◌, ◌<◌, ◌≤◌, ◌⊎◌, inl, inr, List, [], ◌∷◌, ◌++◌, Bool, true, false, cond, ◌&&◌, ◌||◌, Option, Some, None, IsTrue, length, map, get_or, nat_eq, nat_lt, refl, ap, sym, ◌∙◌, subst, arith, ltb→lt, eqb→eq, length-append}
+use Rattle.std.proofs.Common.{◌≡◌, ℕ, suc, zero, ◌+◌, ◌-◌, ◌<◌, ◌≤◌, ◌⊎◌, inl, inr, List, [], ◌∷◌, ◌++◌, Bool, true, false, cond, ◌&&◌, ◌||◌, Some, None, IsTrue, length, map, get_or, nat_eq, nat_lt, refl, ap, sym, ◌∙◌, subst, arith, ltb→lt, eqb→eq, length-append}
 use Rattle.std.specs.Prelude.{slice_get}
 use Rattle.std.specs.Bool.{passes}
 use Rattle.dyadic.proofs.Equal.{both_true}
@@ -9,9 +9,9 @@ use Rattle.poly_graph.proofs.Graphs.{in_order_at}
 use Rattle.square_model.specs.Polynomial as model
 use Rattle.square_model.specs.Polynomial.{is_short}
 use Rattle.square_model.specs.Positive.{node_polynomial, node_steps, steps_below, are_short_below}
-use Rattle.squares.specs.Nodes.{terms_at, node_terms, node_cost}
+use Rattle.squares.specs.Nodes.{terms_at}
 use Rattle.squares.specs.Views.{terms_of}
-use Rattle.squares.specs.Expanding.{IsNext, IsNextIf, IsClosed, IsExpandedTo}
+use Rattle.squares.specs.Expanding.{IsNextIf, IsClosed, IsExpandedTo}
 use Rattle.squares.specs.declared.budget.Budget.{Budget}
 use Rattle.squares.specs.declared.polynomial.Polynomial.{Polynomial}
 use Rattle.squares.proofs.Unfolding.{HasChildren, node_unfolds, node_costs}
@@ -116,6 +116,7 @@ module _ (centre : Space) (nodes : List Node) (ordered : IsTrue (in_order 0 node
     where
       apart : (k : ℕ) → k < suc n → (k ≡ n) ⊎ (k < n)
       apart k l = grind (arith, l)
+
       true-is-not-false : true ≡ false → ⊥
       true-is-not-false x = cc
 

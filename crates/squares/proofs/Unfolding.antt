@@ -1,12 +1,10 @@
 -- The polynomial of a node from those of its children is that of its term.
-use Rattle.std.proofs.Common.{◌≡◌, ℕ, ◌+◌, ◌<◌, List, Bool, true, false, ◌||◌, Some, IsTrue, get_or, nat_eq, nat_lt, refl, ap, ap₂, sym, ◌∙◌, subst, arith, ltb→lt}
+use Rattle.std.proofs.Common.{◌≡◌, ℕ, List, Bool, true, false, ◌||◌, Some, IsTrue, nat_eq, refl, ap, ap₂, sym, ◌∙◌, arith}
 use Rattle.std.proofs.lemmas.Bool.Decides.{nat_tests}
 use Rattle.std.specs.Prelude.{slice_get}
-use Rattle.std.specs.Bool.{passes}
-use Rattle.dyadic.proofs.Equal.{both_true}
 use Rattle.interval_model.specs.Space.{Space}
-use Rattle.poly_graph.specs.Term.{Node, constant_node, variable_node, negate_node, add_node, multiply_node, square_node, comes_after, in_order, has_child, graph_terms, node_term}
-use Rattle.poly_graph.proofs.Graphs.{unfolds, in_order_at}
+use Rattle.poly_graph.specs.Term.{Node, constant_node, variable_node, negate_node, add_node, multiply_node, square_node, in_order, has_child, graph_terms, node_term}
+use Rattle.poly_graph.proofs.Graphs.{unfolds}
 use Rattle.square_model.specs.Polynomial.{Polynomial, polynomial_of, polynomial_negated, polynomial_sum, polynomial_product}
 use Rattle.square_model.specs.Positive.{node_polynomial, node_steps}
 use Rattle.square_model.specs.Steps.{sum_steps, product_steps}

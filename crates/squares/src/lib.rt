@@ -1,8 +1,8 @@
 //! Sums of squares, computed: polynomials about the centre of a space with intervals for coefficients.
 //!
-//! [`Polynomial`] has sums, products and opposites, and [`polynomial_range`] its range over a space. [`node_polynomial`] is
-//! the polynomial of a node from those of its children, and [`block_polynomial`] that of a block of squares. Steps are taken
-//! from a [`Budget`], and where too few are left there is no polynomial.
+//! [`Polynomial`] has sums, products and opposites, and [`polynomial_range`] its range over a space. [`expand_nodes`] gives
+//! the polynomials of a graph's marked nodes, and [`block_polynomial`] that of a block of squares. Steps are taken from a
+//! [`Budget`], and where too few are left there is no polynomial.
 #![tactic(auto)]
 
 mod block;
@@ -17,6 +17,6 @@ mod range;
 pub use block::{Block, Factor, block_polynomial};
 pub use budget::Budget;
 pub use expand::expand_nodes;
-pub use node::{constant, node_polynomial, take_node};
+pub use node::constant;
 pub use polynomial::Polynomial;
 pub use range::polynomial_range;
