@@ -1,43 +1,25 @@
 -- What a line leaves, how many trees it has below it, and whether its state stays.
 use Rattle.std.proofs.Common.{◌≡◌, refl, sym, subst}
-use Rattle.cover_model.specs.Rules.{Line, by, narrow_by, by_range, by_off_range, by_combination, end_by, void_by, false_form, by_lemma, mark_by, unit_atom, ban_atom, branch_by, cut_axis, flip_axis, case_atom, stay_by, open_state, stuck_atom}
+use Rattle.cover_model.specs.Rules.{Line, narrow_by, end_by, mark_by, branch_by, stay_by, open_state, stuck_atom}
 use Rattle.cover_model.specs.Derivation.{Tree, leaf, then, fork}
 use Rattle.cert_joined.specs.Joined.{first_line, leaves_at_once}
 use Rattle.cert_joined.specs.Covers.{Arity, ends, goes_on, splits, arity, IsShaped}
 use Rattle.cert_join.specs.Kinds.{left_kind, arity_of, does_stay}
 
 pub arity_left : (l : Line) → arity l ≡ arity_of (left_kind l)
-arity_left (narrow_by (by_range j)) = refl
-arity_left (mark_by (unit_atom j)) = refl
-arity_left (end_by (void_by (by_range j))) = refl
-arity_left (narrow_by (by_off_range j)) = refl
-arity_left (end_by (void_by (by_off_range j))) = refl
-arity_left (narrow_by (by_combination ms)) = refl
-arity_left (end_by (void_by (by_combination ms))) = refl
-arity_left (mark_by (ban_atom j i)) = refl
-arity_left (end_by false_form) = refl
-arity_left (end_by (by_lemma i)) = refl
-arity_left (branch_by (cut_axis axis c)) = refl
-arity_left (branch_by (flip_axis axis)) = refl
-arity_left (branch_by (case_atom j)) = refl
+arity_left (narrow_by n) = refl
+arity_left (end_by e) = refl
+arity_left (mark_by m) = refl
+arity_left (branch_by b) = refl
 arity_left (stay_by open_state) = refl
 arity_left (stay_by (stuck_atom j)) = refl
 
 -- a tree of one line leaves its state at once where the line's state stays
 pub leaving_left : (l : Line) → leaves_at_once (leaf l) ≡ does_stay (left_kind l)
-leaving_left (narrow_by (by_range j)) = refl
-leaving_left (mark_by (unit_atom j)) = refl
-leaving_left (end_by (void_by (by_range j))) = refl
-leaving_left (narrow_by (by_off_range j)) = refl
-leaving_left (end_by (void_by (by_off_range j))) = refl
-leaving_left (narrow_by (by_combination ms)) = refl
-leaving_left (end_by (void_by (by_combination ms))) = refl
-leaving_left (mark_by (ban_atom j i)) = refl
-leaving_left (end_by false_form) = refl
-leaving_left (end_by (by_lemma i)) = refl
-leaving_left (branch_by (cut_axis axis c)) = refl
-leaving_left (branch_by (flip_axis axis)) = refl
-leaving_left (branch_by (case_atom j)) = refl
+leaving_left (narrow_by n) = refl
+leaving_left (end_by e) = refl
+leaving_left (mark_by m) = refl
+leaving_left (branch_by b) = refl
 leaving_left (stay_by open_state) = refl
 leaving_left (stay_by (stuck_atom j)) = refl
 

@@ -6,7 +6,7 @@ use Rattle.std.specs.Str.{bytes_eq}
 use Rattle.std.proofs.Math.Seq.{drop-cons}
 use Rattle.std.proofs.lemmas.Bool.{eqb-true}
 use Rattle.std.proofs.lemmas.Option.{slice_get_within, get_or_from_slice_get}
-use Rattle.cover_line.specs.Words.{RuleWord, empty_word, pull_word, unit_word, ban_word, void_word, push_word, void_no_word, false_word, by_word, cut_word, flip_word, case_word, open_word, stuck_word, combine_word, void_combine_word, word_of, word_text}
+use Rattle.cover_line.specs.Words.{word_of}
 use Rattle.cover_model.specs.Rules.{Line}
 use Rattle.cover_model.specs.Derivation.{Tree, leaf, then, fork, tree_lines}
 use Rattle.cert_read.specs.CertLine.{CertLine, tree_word, lemma, real_interval, bool_value, yes_list, no_list, rule_line}
@@ -18,7 +18,7 @@ use Rattle.cert_join.specs.Written.{lemma_by, new_ones, text_of, texts_of}
 use Rattle.cert_join.specs.LemmasDue.{begun_with, lines_ahead, new_left, tree_part, whole_line, GoesOn, IsBegun, IsBehind, IsInner, IsNextBegun, IsRest, IsTaken, Rest}
 use Rattle.cert_join.specs.Spot.{Spot, IsBefore}
 use Rattle.cert_join.specs.declared.lemmas.Lemmas.{Lemmas}
-use Rattle.cert_join.proofs.RuleWords.{first_of, first_of_line}
+use Rattle.cert_join.proofs.RuleWords.{first_of, first_of_line, word_told}
 
 -- ---- texts of lines that follow others
 
@@ -201,30 +201,12 @@ goes_behind cert t numbers s s' spot old new state same before = record {
 
 -- ---- which line is next
 
-tree-rule : (v : RuleWord) → bytes_eq (word_text v) (codes "tree") ≡ false
-tree-rule empty_word = refl
-tree-rule pull_word = refl
-tree-rule unit_word = refl
-tree-rule ban_word = refl
-tree-rule void_word = refl
-tree-rule push_word = refl
-tree-rule void_no_word = refl
-tree-rule false_word = refl
-tree-rule by_word = refl
-tree-rule cut_word = refl
-tree-rule flip_word = refl
-tree-rule case_word = refl
-tree-rule open_word = refl
-tree-rule stuck_word = refl
-tree-rule combine_word = refl
-tree-rule void_combine_word = refl
-
 tree-inner : (l : CertLine) → IsInner l → bytes_eq (first_of l) (codes "tree") ≡ false
 tree-inner (real_interval l u) h = refl
 tree-inner (bool_value w) h = refl
 tree-inner (yes_list js) h = refl
 tree-inner (no_list js) h = refl
-tree-inner (rule_line r) h = tree-rule (word_of r)
+tree-inner (rule_line r) h = (word_told (word_of r)).no_tree
 tree-inner _ h = absurd h
 
 not-tree : (l : CertLine) → bytes_eq (first_of l) (codes "tree") ≡ false → line_text l ≡ codes "tree" → ⊥

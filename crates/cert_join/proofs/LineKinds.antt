@@ -1,14 +1,13 @@
 -- What a line of a lemma is, by its first word.
 use Rattle.std.proofs.Common.{◌≡◌, ℕ, List, [], ◌∷◌, IsTrue, codes, refl, ap, sym, ◌∙◌, get_or, map, drop}
 use Rattle.std.specs.Prelude.{decimal}
-use Rattle.cover_line.specs.Words.{RuleWord, empty_word, pull_word, unit_word, ban_word, void_word, push_word, void_no_word, false_word, by_word, cut_word, flip_word, case_word, open_word, stuck_word, combine_word, void_combine_word, word_of, word_text}
+use Rattle.cover_line.specs.Words.{empty_word, word_of, word_text}
 use Rattle.cert_read.specs.CertLine.{CertLine, version, margin, delta, bound, lower, goal, over, checks, cover, keep, point_word, tree_word, end_word, lemma, real_interval, real_value, bool_value, yes_list, no_list, rule_line, crossing}
 use Rattle.cert_read.specs.LineText.{line_text, line_words, spaced, bound_text, lower_text, bool_text}
 use Rattle.cert_read.specs.Lines.{words_of}
 use Rattle.cert_read.proofs.Pieces.{lacks}
-use Rattle.cert_join.specs.declared.numbering.Kind.TheVariants.{Other}
 use Rattle.cert_join.specs.Numbered.{word_kind, line_kind}
-use Rattle.cert_join.proofs.RuleWords.{first_of_rule}
+use Rattle.cert_join.proofs.RuleWords.{first_of_rule, word_told}
 use Rattle.cert_join.proofs.Spaced.{split_spaced}
 
 first-same : (w v : List ℕ) (ws vs : List (List ℕ)) → w ∷ ws ≡ v ∷ vs → w ≡ v
@@ -18,26 +17,8 @@ first-same w v ws vs e = ap (λ (xs : List (List ℕ)). get_or xs 0 w) e
 begins : (text w v : List ℕ) (ws vs : List (List ℕ)) → words_of text ≡ w ∷ ws → text ≡ spaced (v ∷ vs) → IsTrue (lacks 32 v) → word_kind w ≡ word_kind v
 begins text w v ws vs e t h = let r = split_spaced v vs h in ap word_kind (first-same w v ws r.0 (sym e ∙ ap words_of t ∙ r.1))
 
-rule-kind : (w : RuleWord) → word_kind (word_text w) ≡ Other
-rule-kind empty_word = refl
-rule-kind pull_word = refl
-rule-kind unit_word = refl
-rule-kind ban_word = refl
-rule-kind void_word = refl
-rule-kind push_word = refl
-rule-kind void_no_word = refl
-rule-kind false_word = refl
-rule-kind by_word = refl
-rule-kind cut_word = refl
-rule-kind flip_word = refl
-rule-kind case_word = refl
-rule-kind open_word = refl
-rule-kind stuck_word = refl
-rule-kind combine_word = refl
-rule-kind void_combine_word = refl
-
 pub first_kind : (l : CertLine) (text w : List ℕ) (ws : List (List ℕ)) → words_of text ≡ w ∷ ws → text ≡ line_text l → word_kind w ≡ line_kind l
-first_kind (rule_line r) text w ws e t = ap word_kind (first_of_rule r text w ws e t) ∙ rule-kind (word_of r)
+first_kind (rule_line r) text w ws e t = ap word_kind (first_of_rule r text w ws e t) ∙ (word_told (word_of r)).other
 first_kind (version n) text w ws e t = begins text w (codes "dpoly") ws (decimal n ∷ []) e t refl
 first_kind (margin n) text w ws e t = begins text w (codes "margin") ws (decimal n ∷ []) e t refl
 first_kind (delta n) text w ws e t = begins text w (codes "delta") ws (decimal n ∷ []) e t refl

@@ -3,7 +3,7 @@ use Rattle.std.proofs.Common.{◌≡◌, ◌<◌, ◌≤◌, ℕ, List, [], ◌�
 use Rattle.std.specs.List.{AllByRecursion}
 use Rattle.std.proofs.lemmas.Bool.{eqb-true}
 use Rattle.std.proofs.lemmas.List.{append-nil}
-use Rattle.cover_model.specs.Rules.{Line, narrow_by, by_range, by_off_range, by_combination, end_by, void_by, false_form, by_lemma, mark_by, unit_atom, ban_atom, branch_by, cut_axis, flip_axis, case_atom, stay_by, open_state, stuck_atom}
+use Rattle.cover_model.specs.Rules.{Line, narrow_by, end_by, mark_by, branch_by, stay_by}
 use Rattle.cover_model.specs.Derivation.{Tree, leaf, then, fork, tree_lines}
 use Rattle.cert_read.specs.CertLine.{rule_line}
 use Rattle.cert_read.specs.LineText.{IsSpelled}
@@ -158,21 +158,11 @@ ahead_behind a i place all shaped spelled =
 -- ---- those that leave their states
 
 pub leaving_ends : (l : Line) → leaves l ≡ true → arity l ≡ ends
-leaving_ends (stay_by open_state) e = refl
-leaving_ends (stay_by (stuck_atom j)) e = refl
-leaving_ends (narrow_by (by_range j)) e = cc
-leaving_ends (mark_by (unit_atom j)) e = cc
-leaving_ends (end_by (void_by (by_range j))) e = cc
-leaving_ends (narrow_by (by_off_range j)) e = cc
-leaving_ends (end_by (void_by (by_off_range j))) e = cc
-leaving_ends (narrow_by (by_combination ms)) e = cc
-leaving_ends (end_by (void_by (by_combination ms))) e = cc
-leaving_ends (mark_by (ban_atom j i)) e = cc
-leaving_ends (end_by false_form) e = cc
-leaving_ends (end_by (by_lemma i)) e = cc
-leaving_ends (branch_by (cut_axis axis c)) e = cc
-leaving_ends (branch_by (flip_axis axis)) e = cc
-leaving_ends (branch_by (case_atom j)) e = cc
+leaving_ends (narrow_by n) e = cc
+leaving_ends (end_by k) e = refl
+leaving_ends (mark_by m) e = cc
+leaving_ends (branch_by b) e = cc
+leaving_ends (stay_by t) e = refl
 
 pub all_ends : (place : Meeting) → AllByRecursion (λ (x : ℕ × Tree). does_leave x ≡ true) place → AllOf ends place
 all_ends [] h = tt

@@ -1,6 +1,6 @@
 -- The first word of a line of a tree, and the number of its lemma.
-use Rattle.std.proofs.Common.{◌≡◌, ◌<◌, ◌≤◌, ◌^◌, ℕ, inl, inr, List, [], ◌∷◌, ◌++◌, true, false, not, ◌||◌, nat_eq, IsTrue, Option, Some, None, codes, cond, refl, ap, ap₂, sym, ◌∙◌, length, get_or, subst, ⊎_elim, append_assoc, arith}
-use Rattle.std.specs.Prelude.{decimal, slice_get, IfSome, Ok}
+use Rattle.std.proofs.Common.{◌≡◌, ◌<◌, ◌≤◌, ◌^◌, ℕ, ◌⊎◌, inl, inr, List, [], ◌∷◌, ◌++◌, true, false, not, ◌||◌, nat_eq, IsTrue, Option, Some, None, codes, cond, refl, ap, ap₂, sym, ◌∙◌, length, get_or, subst, ⊎_elim, append_assoc, arith}
+use Rattle.std.specs.Prelude.{Bool, decimal, is_some, slice_get, IfSome, Ok}
 use Rattle.std.specs.Str.{bytes_eq, all_ascii_digits}
 use Rattle.std.specs.Str.Parse.{digits_value}
 use Rattle.std.proofs.lemmas.Bool.{cases_lt}
@@ -8,35 +8,108 @@ use Rattle.std.proofs.lemmas.Bool.Decides.{eqb_tells}
 use Rattle.std.proofs.lemmas.Option.{slice_get_within, get_or_from_slice_get, slice_get-get_or}
 use Rattle.std.proofs.lemmas.Fmt.{digits_decimal}
 use Rattle.std.proofs.lemmas.Str.Parse.{IsNumeralModel, tells_all_ascii_digits, numerals_by_value}
-use Rattle.cover_line.specs.Words.{RuleWord, empty_word, pull_word, unit_word, ban_word, void_word, push_word, void_no_word, false_word, by_word, cut_word, flip_word, case_word, open_word, stuck_word, combine_word, void_combine_word, word_of, word_text}
-use Rattle.cover_model.specs.Rules.{Line, ban, by, narrow_by, by_range, by_off_range, by_combination, end_by, void_by, false_form, by_lemma, mark_by, unit_atom, ban_atom, branch_by, cut_axis, flip_axis, case_atom, stay_by, open_state, stuck_atom}
+use Rattle.cover_line.specs.Words.{RuleWord, empty_word, pull_word, unit_word, ban_word, void_word, push_word, void_no_word, false_word, by_word, cut_word, flip_word, case_word, open_word, stuck_word, combine_word, void_combine_word, narrowing_word, voiding_word, word_of, word_text}
+use Rattle.cover_model.specs.Rules.{Line, ban, by, narrow_by, Narrowing, by_range, by_off_range, by_combination, end_by, void_by, false_form, by_lemma, mark_by, unit_atom, ban_atom, branch_by, cut_axis, flip_axis, case_atom, stay_by, open_state, stuck_atom}
 use Rattle.cert_read.specs.CertLine.{CertLine, version, margin, delta, bound, lower, goal, over, checks, cover, keep, point_word, tree_word, end_word, lemma, real_interval, real_value, bool_value, yes_list, no_list, rule_line, crossing}
 use Rattle.cert_read.specs.LineText.{IsSpelled, spaced, line_words, line_text}
 use Rattle.cert_read.specs.Lines.{words_of}
 use Rattle.cert_read.proofs.Pieces.{lacks}
 use Rattle.cert_joined.specs.Covers.{line_by, numbered}
-use Rattle.cert_join.specs.Kinds.{rule_text, lemma_front, lemma_named, does_name, lemma_named_in, names_by_word, number_among, renumbered, IsRenumbered}
+use Rattle.cert_join.specs.declared.line.Left.{Left}
+use Rattle.cert_join.specs.declared.line.Left.TheVariants.{Nothing, One, Open}
+use Rattle.cert_join.specs.declared.numbering.Kind.TheVariants.{Other}
+use Rattle.cert_join.specs.Numbered.{word_kind}
+use Rattle.cert_join.specs.Kinds.{kind_of_word, left_kind, rule_text, lemma_front, lemma_named, does_name, lemma_named_in, number_among, renumbered, IsRenumbered}
 use Rattle.cert_join.proofs.Spaced.{both_pass, split_spaced}
 
--- ---- the first word
+-- ---- what a first word tells
 
-word-lacks : (w : RuleWord) → IsTrue (lacks 32 (word_text w))
-word-lacks empty_word = refl
-word-lacks pull_word = refl
-word-lacks unit_word = refl
-word-lacks ban_word = refl
-word-lacks void_word = refl
-word-lacks push_word = refl
-word-lacks void_no_word = refl
-word-lacks false_word = refl
-word-lacks by_word = refl
-word-lacks cut_word = refl
-word-lacks flip_word = refl
-word-lacks case_word = refl
-word-lacks open_word = refl
-word-lacks stuck_word = refl
-word-lacks combine_word = refl
-word-lacks void_combine_word = refl
+-- whether it leads a line that names a lemma
+abbrev pub names_by_word : RuleWord → Bool
+names_by_word by_word = true
+names_by_word ban_word = true
+names_by_word w = false
+
+abbrev pub is_naming_text : List ℕ → Bool
+is_naming_text w = bytes_eq w (word_text by_word) || bytes_eq w (word_text ban_word)
+
+abbrev pub decoded : List ℕ → RuleWord
+decoded w = cond (bytes_eq w (word_text void_combine_word)) void_combine_word (cond (bytes_eq w (word_text combine_word)) combine_word (cond (bytes_eq w (word_text stuck_word)) stuck_word (cond (bytes_eq w (word_text open_word)) open_word (cond (bytes_eq w (word_text case_word)) case_word (cond (bytes_eq w (word_text flip_word)) flip_word (cond (bytes_eq w (word_text cut_word)) cut_word (cond (bytes_eq w (word_text by_word)) by_word (cond (bytes_eq w (word_text false_word)) false_word (cond (bytes_eq w (word_text void_no_word)) void_no_word (cond (bytes_eq w (word_text push_word)) push_word (cond (bytes_eq w (word_text void_word)) void_word (cond (bytes_eq w (word_text ban_word)) ban_word (cond (bytes_eq w (word_text unit_word)) unit_word (cond (bytes_eq w (word_text pull_word)) pull_word empty_word))))))))))))))
+
+-- The spelling of a rule's word tells which word it is.
+pub record IsWordTold (w : RuleWord) : Type 0 where
+  pub one : IsTrue (lacks 32 (word_text w))
+  pub which : decoded (word_text w) ≡ w
+  pub names : is_naming_text (word_text w) ≡ names_by_word w
+  -- no word of a lemma's or a certificate's own lines
+  pub other : word_kind (word_text w) ≡ Other
+  pub no_tree : bytes_eq (word_text w) (codes "tree") ≡ false
+
+pub word_told : (w : RuleWord) → IsWordTold w
+word_told empty_word = record { one = refl; which = refl; names = refl; other = refl; no_tree = refl }
+word_told pull_word = record { one = refl; which = refl; names = refl; other = refl; no_tree = refl }
+word_told unit_word = record { one = refl; which = refl; names = refl; other = refl; no_tree = refl }
+word_told ban_word = record { one = refl; which = refl; names = refl; other = refl; no_tree = refl }
+word_told void_word = record { one = refl; which = refl; names = refl; other = refl; no_tree = refl }
+word_told push_word = record { one = refl; which = refl; names = refl; other = refl; no_tree = refl }
+word_told void_no_word = record { one = refl; which = refl; names = refl; other = refl; no_tree = refl }
+word_told false_word = record { one = refl; which = refl; names = refl; other = refl; no_tree = refl }
+word_told by_word = record { one = refl; which = refl; names = refl; other = refl; no_tree = refl }
+word_told cut_word = record { one = refl; which = refl; names = refl; other = refl; no_tree = refl }
+word_told flip_word = record { one = refl; which = refl; names = refl; other = refl; no_tree = refl }
+word_told case_word = record { one = refl; which = refl; names = refl; other = refl; no_tree = refl }
+word_told open_word = record { one = refl; which = refl; names = refl; other = refl; no_tree = refl }
+word_told stuck_word = record { one = refl; which = refl; names = refl; other = refl; no_tree = refl }
+word_told combine_word = record { one = refl; which = refl; names = refl; other = refl; no_tree = refl }
+word_told void_combine_word = record { one = refl; which = refl; names = refl; other = refl; no_tree = refl }
+
+-- no two words have one spelling
+pub same_word : (v w : RuleWord) → word_text v ≡ word_text w → v ≡ w
+same_word v w e = sym (word_told v).which ∙ ap (λ (t : List ℕ). decoded t) e ∙ (word_told w).which
+
+abbrev IsTold : Left → Bool → RuleWord → Type 0
+IsTold k b w = (kind_of_word w ≡ k) × (names_by_word w ≡ b)
+
+narrowing-told : (n : Narrowing) → IsTold One false (narrowing_word n)
+narrowing-told (by_range j) = (refl, refl)
+narrowing-told (by_off_range j) = (refl, refl)
+narrowing-told (by_combination ms) = (refl, refl)
+
+voiding-told : (n : Narrowing) → IsTold Nothing false (voiding_word n)
+voiding-told (by_range j) = (refl, refl)
+voiding-told (by_off_range j) = (refl, refl)
+voiding-told (by_combination ms) = (refl, refl)
+
+-- the first word of a line tells what the line leaves, and whether it names a lemma
+line-told : (r : Line) → IsTold (left_kind r) (does_name (rule_line r)) (word_of r)
+line-told (narrow_by n) = narrowing-told n
+line-told (end_by (void_by n)) = voiding-told n
+line-told (end_by false_form) = (refl, refl)
+line-told (end_by (by_lemma i)) = (refl, refl)
+line-told (mark_by (unit_atom j)) = (refl, refl)
+line-told (mark_by (ban_atom j i)) = (refl, refl)
+line-told (branch_by (cut_axis axis c)) = (refl, refl)
+line-told (branch_by (flip_axis axis)) = (refl, refl)
+line-told (branch_by (case_atom j)) = (refl, refl)
+line-told (stay_by open_state) = (refl, refl)
+line-told (stay_by (stuck_atom j)) = (refl, refl)
+
+pub word_leaves : (r : Line) → kind_of_word (word_of r) ≡ left_kind r
+word_leaves r = (line-told r).0
+
+open-text : (r : Line) → left_kind r ≡ Open → rule_text r ≡ word_text open_word
+open-text (narrow_by n) e = absurd (cc)
+open-text (end_by k) e = absurd (cc)
+open-text (mark_by m) e = absurd (cc)
+open-text (branch_by b) e = absurd (cc)
+open-text (stay_by open_state) e = refl
+open-text (stay_by (stuck_atom j)) e = absurd (cc)
+
+-- a line that leaves its state open is that word alone
+pub open_alone : (r : Line) → open_word ≡ word_of r → rule_text r ≡ word_text open_word
+open_alone r e = open-text r (sym (word_leaves r) ∙ ap kind_of_word (sym e))
+
+-- ---- the first word
 
 -- the first word of a line, and the others
 abbrev pub first_of : CertLine → List ℕ
@@ -69,311 +142,149 @@ behind-first (w ∷ ws) = ws
 abbrev others_of : CertLine → List (List ℕ)
 others_of l = behind-first (line_words l)
 
-parted : (l : CertLine) → line_text l ≡ spaced (first_of l ∷ others_of l)
-parted (version n) = refl
-parted (margin m) = refl
-parted (delta d) = refl
-parted (bound b) = refl
-parted (lower d) = refl
-parted (goal n) = refl
-parted (checks n) = refl
-parted (cover k) = refl
-parted (keep q) = refl
-parted point_word = refl
-parted tree_word = refl
-parted end_word = refl
-parted (lemma i) = refl
-parted (real_interval l h) = refl
-parted (real_value v) = refl
-parted (bool_value w) = refl
-parted (yes_list js) = refl
-parted (no_list js) = refl
-parted (rule_line l) = refl
-parted over = refl
-parted (crossing i) = refl
-
-first-lacks : (l : CertLine) → IsTrue (lacks 32 (first_of l))
-first-lacks (version n) = refl
-first-lacks (margin m) = refl
-first-lacks (delta d) = refl
-first-lacks (bound b) = refl
-first-lacks (lower d) = refl
-first-lacks (goal n) = refl
-first-lacks (checks n) = refl
-first-lacks (cover k) = refl
-first-lacks (keep q) = refl
-first-lacks point_word = refl
-first-lacks tree_word = refl
-first-lacks end_word = refl
-first-lacks (lemma i) = refl
-first-lacks (real_interval l h) = refl
-first-lacks (real_value v) = refl
-first-lacks (bool_value w) = refl
-first-lacks (yes_list js) = refl
-first-lacks (no_list js) = refl
-first-lacks (rule_line l) = word-lacks (word_of l)
-first-lacks over = refl
-first-lacks (crossing i) = refl
+-- the line is its first word and the others, and the first one tells whether the line names a lemma
+parted : (l : CertLine) → (line_text l ≡ spaced (first_of l ∷ others_of l)) × IsTrue (lacks 32 (first_of l)) × (is_naming_text (first_of l) ≡ does_name l)
+parted (version n) = (refl, refl, refl)
+parted (margin m) = (refl, refl, refl)
+parted (delta d) = (refl, refl, refl)
+parted (bound b) = (refl, refl, refl)
+parted (lower d) = (refl, refl, refl)
+parted (goal n) = (refl, refl, refl)
+parted (checks n) = (refl, refl, refl)
+parted (cover k) = (refl, refl, refl)
+parted (keep q) = (refl, refl, refl)
+parted point_word = (refl, refl, refl)
+parted tree_word = (refl, refl, refl)
+parted end_word = (refl, refl, refl)
+parted (lemma i) = (refl, refl, refl)
+parted (real_interval l h) = (refl, refl, refl)
+parted (real_value v) = (refl, refl, refl)
+parted (bool_value w) = (refl, refl, refl)
+parted (yes_list js) = (refl, refl, refl)
+parted (no_list js) = (refl, refl, refl)
+parted (rule_line r) = (refl, (word_told (word_of r)).one, (word_told (word_of r)).names ∙ (line-told r).1)
+parted over = (refl, refl, refl)
+parted (crossing i) = (refl, refl, refl)
 
 pub first_of_line : (l : CertLine) (text w : List ℕ) (ws : List (List ℕ)) → words_of text ≡ w ∷ ws → text ≡ line_text l → w ≡ first_of l
 first_of_line l text w ws e h =
-    let f = split_spaced (first_of l) (others_of l) (first-lacks l) in
-    let g : w ∷ ws ≡ first_of l ∷ f.0 = sym e ∙ ap words_of (h ∙ parted l) ∙ f.1 in cc
+    let f = split_spaced (first_of l) (others_of l) (parted l).1 in
+    let g : w ∷ ws ≡ first_of l ∷ f.0 = sym e ∙ ap words_of (h ∙ (parted l).0) ∙ f.1 in cc
 
 pub first_of_rule : (r : Line) (text w : List ℕ) (ws : List (List ℕ)) → words_of text ≡ w ∷ ws → text ≡ rule_text r → w ≡ word_text (word_of r)
 first_of_rule r = first_of_line (rule_line r)
 
 -- ---- whether it names a lemma
 
-pub names_by_text : (v : RuleWord) → (bytes_eq (word_text v) (word_text by_word) || bytes_eq (word_text v) (word_text ban_word)) ≡ names_by_word v
-names_by_text empty_word = refl
-names_by_text pull_word = refl
-names_by_text unit_word = refl
-names_by_text ban_word = refl
-names_by_text void_word = refl
-names_by_text push_word = refl
-names_by_text void_no_word = refl
-names_by_text false_word = refl
-names_by_text by_word = refl
-names_by_text cut_word = refl
-names_by_text flip_word = refl
-names_by_text case_word = refl
-names_by_text open_word = refl
-names_by_text stuck_word = refl
-names_by_text combine_word = refl
-names_by_text void_combine_word = refl
-
--- ---- what the first word tells
-
-abbrev decoded : List ℕ → RuleWord
-decoded w = cond (bytes_eq w (word_text void_combine_word)) void_combine_word (cond (bytes_eq w (word_text combine_word)) combine_word (cond (bytes_eq w (word_text stuck_word)) stuck_word (cond (bytes_eq w (word_text open_word)) open_word (cond (bytes_eq w (word_text case_word)) case_word (cond (bytes_eq w (word_text flip_word)) flip_word (cond (bytes_eq w (word_text cut_word)) cut_word (cond (bytes_eq w (word_text by_word)) by_word (cond (bytes_eq w (word_text false_word)) false_word (cond (bytes_eq w (word_text void_no_word)) void_no_word (cond (bytes_eq w (word_text push_word)) push_word (cond (bytes_eq w (word_text void_word)) void_word (cond (bytes_eq w (word_text ban_word)) ban_word (cond (bytes_eq w (word_text unit_word)) unit_word (cond (bytes_eq w (word_text pull_word)) pull_word empty_word))))))))))))))
-
-decoded-text : (v : RuleWord) → decoded (word_text v) ≡ v
-decoded-text empty_word = refl
-decoded-text pull_word = refl
-decoded-text unit_word = refl
-decoded-text ban_word = refl
-decoded-text void_word = refl
-decoded-text push_word = refl
-decoded-text void_no_word = refl
-decoded-text false_word = refl
-decoded-text by_word = refl
-decoded-text cut_word = refl
-decoded-text flip_word = refl
-decoded-text case_word = refl
-decoded-text open_word = refl
-decoded-text stuck_word = refl
-decoded-text combine_word = refl
-decoded-text void_combine_word = refl
-
--- no two words have one spelling
-pub same_word : (v w : RuleWord) → word_text v ≡ word_text w → v ≡ w
-same_word v w e = sym (decoded-text v) ∙ ap (λ (t : List ℕ). decoded t) e ∙ decoded-text w
-
--- a line that leaves its state open is that word alone
-pub open_alone : (r : Line) → open_word ≡ word_of r → rule_text r ≡ word_text open_word
-open_alone (narrow_by (by_range j)) e = absurd (cc)
-open_alone (mark_by (unit_atom j)) e = absurd (cc)
-open_alone (end_by (void_by (by_range j))) e = absurd (cc)
-open_alone (narrow_by (by_off_range j)) e = absurd (cc)
-open_alone (end_by (void_by (by_off_range j))) e = absurd (cc)
-open_alone (narrow_by (by_combination ms)) e = absurd (cc)
-open_alone (end_by (void_by (by_combination ms))) e = absurd (cc)
-open_alone (mark_by (ban_atom j i)) e = absurd (cc)
-open_alone (end_by false_form) e = absurd (cc)
-open_alone (end_by (by_lemma i)) e = absurd (cc)
-open_alone (branch_by (cut_axis axis c)) e = absurd (cc)
-open_alone (branch_by (flip_axis axis)) e = absurd (cc)
-open_alone (branch_by (case_atom j)) e = absurd (cc)
-open_alone (stay_by open_state) e = refl
-open_alone (stay_by (stuck_atom j)) e = absurd (cc)
-
-pub names_first : (l : CertLine) → (bytes_eq (first_of l) (word_text by_word) || bytes_eq (first_of l) (word_text ban_word)) ≡ does_name l
-names_first (version n) = refl
-names_first (margin m) = refl
-names_first (delta d) = refl
-names_first (bound b) = refl
-names_first (lower d) = refl
-names_first (goal n) = refl
-names_first (checks n) = refl
-names_first (cover k) = refl
-names_first (keep q) = refl
-names_first point_word = refl
-names_first tree_word = refl
-names_first end_word = refl
-names_first (lemma i) = refl
-names_first (real_interval l h) = refl
-names_first (real_value v) = refl
-names_first (bool_value w) = refl
-names_first (yes_list js) = refl
-names_first (no_list js) = refl
-names_first (rule_line l) = names_by_text (word_of l)
-names_first over = refl
-names_first (crossing i) = refl
-
 pub names_from : (l : CertLine) (text w : List ℕ) (ws : List (List ℕ)) → words_of text ≡ w ∷ ws → text ≡ line_text l
     → (t u : List ℕ) → t ≡ word_text by_word → u ≡ word_text ban_word → (bytes_eq w t || bytes_eq w u) ≡ does_name l
 names_from l text w ws e h t u f g =
     ap (λ (x : List ℕ). bytes_eq x t || bytes_eq x u) (first_of_line l text w ws e h)
-    ∙ ap₂ (λ (y z : List ℕ). bytes_eq (first_of l) y || bytes_eq (first_of l) z) f g ∙ names_first l
+    ∙ ap₂ (λ (y z : List ℕ). bytes_eq (first_of l) y || bytes_eq (first_of l) z) f g ∙ (parted l).2
 
--- a line whose word names none names none
-pub names_none : (r : Line) → names_by_word (word_of r) ≡ false → (f : ℕ → ℕ) → (lemma_named r ≡ None) × (line_by f r ≡ r)
-names_none (narrow_by (by_range j)) h f = (refl, refl)
-names_none (mark_by (unit_atom j)) h f = (refl, refl)
-names_none (end_by (void_by (by_range j))) h f = (refl, refl)
-names_none (narrow_by (by_off_range j)) h f = (refl, refl)
-names_none (end_by (void_by (by_off_range j))) h f = (refl, refl)
-names_none (narrow_by (by_combination ms)) h f = (refl, refl)
-names_none (end_by (void_by (by_combination ms))) h f = (refl, refl)
-names_none (mark_by (ban_atom j i)) h f = absurd (cc)
-names_none (end_by false_form) h f = (refl, refl)
-names_none (end_by (by_lemma i)) h f = absurd (cc)
-names_none (branch_by (cut_axis axis c)) h f = (refl, refl)
-names_none (branch_by (flip_axis axis)) h f = (refl, refl)
-names_none (branch_by (case_atom j)) h f = (refl, refl)
-names_none (stay_by open_state) h f = (refl, refl)
-names_none (stay_by (stuck_atom j)) h f = (refl, refl)
+-- a line that names no lemma is the same with other numbers
+same-without : (f : ℕ → ℕ) (r : Line) → lemma_named r ≡ None → line_by f r ≡ r
+same-without f (narrow_by n) h = refl
+same-without f (end_by (void_by n)) h = refl
+same-without f (end_by false_form) h = refl
+same-without f (end_by (by_lemma i)) h = absurd (cc)
+same-without f (mark_by (unit_atom j)) h = refl
+same-without f (mark_by (ban_atom j i)) h = absurd (cc)
+same-without f (branch_by b) h = refl
+same-without f (stay_by t) h = refl
+
+-- a line of a tree, or one that names no lemma
+rule-or-same : (f : ℕ → ℕ) (l : CertLine) → ((r : Line) × (l ≡ rule_line r)) ⊎ ((lemma_named_in l ≡ None) × (renumbered f l ≡ l))
+rule-or-same f (version n) = inr (refl, refl)
+rule-or-same f (margin m) = inr (refl, refl)
+rule-or-same f (delta d) = inr (refl, refl)
+rule-or-same f (bound b) = inr (refl, refl)
+rule-or-same f (lower d) = inr (refl, refl)
+rule-or-same f (goal n) = inr (refl, refl)
+rule-or-same f (checks n) = inr (refl, refl)
+rule-or-same f (cover k) = inr (refl, refl)
+rule-or-same f (keep q) = inr (refl, refl)
+rule-or-same f point_word = inr (refl, refl)
+rule-or-same f tree_word = inr (refl, refl)
+rule-or-same f end_word = inr (refl, refl)
+rule-or-same f (lemma i) = inr (refl, refl)
+rule-or-same f (real_interval l h) = inr (refl, refl)
+rule-or-same f (real_value v) = inr (refl, refl)
+rule-or-same f (bool_value w) = inr (refl, refl)
+rule-or-same f (yes_list js) = inr (refl, refl)
+rule-or-same f (no_list js) = inr (refl, refl)
+rule-or-same f (rule_line r) = inl (r, refl)
+rule-or-same f over = inr (refl, refl)
+rule-or-same f (crossing i) = inr (refl, refl)
+
+none-is : (o : Option ℕ) → is_some o ≡ false → o ≡ None
+none-is None e = refl
+none-is (Some i) e = absurd (cc)
+
+some-is : (o : Option ℕ) → is_some o ≡ true → (i : ℕ) × (o ≡ Some i)
+some-is None e = absurd (cc)
+some-is (Some i) e = (i, refl)
 
 pub none_named : (l : CertLine) → does_name l ≡ false → (f : ℕ → ℕ) → (lemma_named_in l ≡ None) × (renumbered f l ≡ l)
-none_named (version n) h f = (refl, refl)
-none_named (margin m) h f = (refl, refl)
-none_named (delta d) h f = (refl, refl)
-none_named (bound b) h f = (refl, refl)
-none_named (lower d) h f = (refl, refl)
-none_named (goal n) h f = (refl, refl)
-none_named (checks n) h f = (refl, refl)
-none_named (cover k) h f = (refl, refl)
-none_named (keep q) h f = (refl, refl)
-none_named point_word h f = (refl, refl)
-none_named tree_word h f = (refl, refl)
-none_named end_word h f = (refl, refl)
-none_named (lemma i) h f = (refl, refl)
-none_named (real_interval l u) h f = (refl, refl)
-none_named (real_value v) h f = (refl, refl)
-none_named (bool_value w) h f = (refl, refl)
-none_named (yes_list js) h f = (refl, refl)
-none_named (no_list js) h f = (refl, refl)
-none_named (rule_line l) h f = let e = names_none l h f in (e.0, ap rule_line e.1)
-none_named over h f = (refl, refl)
-none_named (crossing i) h f = (refl, refl)
-
-names-one : (r : Line) → names_by_word (word_of r) ≡ true → (i : ℕ) × (lemma_named r ≡ Some i)
-names-one (narrow_by (by_range j)) h = absurd (cc)
-names-one (mark_by (unit_atom j)) h = absurd (cc)
-names-one (end_by (void_by (by_range j))) h = absurd (cc)
-names-one (narrow_by (by_off_range j)) h = absurd (cc)
-names-one (end_by (void_by (by_off_range j))) h = absurd (cc)
-names-one (narrow_by (by_combination ms)) h = absurd (cc)
-names-one (end_by (void_by (by_combination ms))) h = absurd (cc)
-names-one (mark_by (ban_atom j i)) h = (i, refl)
-names-one (end_by false_form) h = absurd (cc)
-names-one (end_by (by_lemma i)) h = (i, refl)
-names-one (branch_by (cut_axis axis c)) h = absurd (cc)
-names-one (branch_by (flip_axis axis)) h = absurd (cc)
-names-one (branch_by (case_atom j)) h = absurd (cc)
-names-one (stay_by open_state) h = absurd (cc)
-names-one (stay_by (stuck_atom j)) h = absurd (cc)
+none_named l h f = elim (rule-or-same f l) [
+  | inl (r, e) ↦
+      let none = none-is (lemma_named_in l) h in
+      (none, ap (renumbered f) e ∙ ap rule_line (same-without f r (sym (ap lemma_named_in e) ∙ none)) ∙ sym e)
+  | inr q ↦ q
+]
 
 pub one_named : (l : CertLine) → does_name l ≡ true → (r : Line) × (i : ℕ) × (l ≡ rule_line r) × (lemma_named r ≡ Some i)
-one_named (version n) h = absurd (cc)
-one_named (margin m) h = absurd (cc)
-one_named (delta d) h = absurd (cc)
-one_named (bound b) h = absurd (cc)
-one_named (lower d) h = absurd (cc)
-one_named (goal n) h = absurd (cc)
-one_named (checks n) h = absurd (cc)
-one_named (cover k) h = absurd (cc)
-one_named (keep q) h = absurd (cc)
-one_named point_word h = absurd (cc)
-one_named tree_word h = absurd (cc)
-one_named end_word h = absurd (cc)
-one_named (lemma i) h = absurd (cc)
-one_named (real_interval l u) h = absurd (cc)
-one_named (real_value v) h = absurd (cc)
-one_named (bool_value w) h = absurd (cc)
-one_named (yes_list js) h = absurd (cc)
-one_named (no_list js) h = absurd (cc)
-one_named (rule_line r) h = let e = names-one r h in (r, e.0, refl, e.1)
-one_named over h = absurd (cc)
-one_named (crossing i) h = absurd (cc)
+one_named l h = let some = some-is (lemma_named_in l) h in elim (rule-or-same (λ n. n) l) [
+  | inl (r, e) ↦ (r, some.0, e, sym (ap lemma_named_in e) ∙ some.1)
+  | inr q ↦ absurd (let e : ◌≡◌ {A = Option ℕ} None (Some some.0) = sym q.0 ∙ some.1 in cc)
+]
 
 -- ---- the number of its lemma
 
+-- the two lines that name a lemma
+data IsNaming : Line → ℕ → Type 0 where
+  by_names : (i : ℕ) → IsNaming (by i) i
+  ban_names : (j i : ℕ) → IsNaming (ban j i) i
+
+is-naming : (r : Line) (i : ℕ) → lemma_named r ≡ Some i → IsNaming r i
+is-naming (narrow_by n) i h = absurd (let e : ◌≡◌ {A = Option ℕ} None (Some i) = h in cc)
+is-naming (end_by (void_by n)) i h = absurd (let e : ◌≡◌ {A = Option ℕ} None (Some i) = h in cc)
+is-naming (end_by false_form) i h = absurd (let e : ◌≡◌ {A = Option ℕ} None (Some i) = h in cc)
+is-naming (end_by (by_lemma k)) i h = let e : k ≡ i = cc in subst (IsNaming (by k)) e (by_names k)
+is-naming (mark_by (unit_atom j)) i h = absurd (let e : ◌≡◌ {A = Option ℕ} None (Some i) = h in cc)
+is-naming (mark_by (ban_atom j k)) i h = let e : k ≡ i = cc in subst (IsNaming (ban j k)) e (ban_names j k)
+is-naming (branch_by b) i h = absurd (let e : ◌≡◌ {A = Option ℕ} None (Some i) = h in cc)
+is-naming (stay_by t) i h = absurd (let e : ◌≡◌ {A = Option ℕ} None (Some i) = h in cc)
+
+front-ends : {r : Line} {i : ℕ} → IsNaming r i → (front : List ℕ) × (lemma_front r ≡ front ++ (32 ∷ []))
+front-ends (by_names i) = (codes "by", refl)
+front-ends (ban_names j i) = (codes "ban " ++ decimal j, refl)
+
 -- what stands before the number up to its space
 pub front_ends : (r : Line) (i : ℕ) → lemma_named r ≡ Some i → (front : List ℕ) × (lemma_front r ≡ front ++ (32 ∷ []))
-front_ends (narrow_by (by_range j)) i h = absurd (let e : ◌≡◌ {A = Option ℕ} None (Some i) = h in cc)
-front_ends (mark_by (unit_atom j)) i h = absurd (let e : ◌≡◌ {A = Option ℕ} None (Some i) = h in cc)
-front_ends (end_by (void_by (by_range j))) i h = absurd (let e : ◌≡◌ {A = Option ℕ} None (Some i) = h in cc)
-front_ends (narrow_by (by_off_range j)) i h = absurd (let e : ◌≡◌ {A = Option ℕ} None (Some i) = h in cc)
-front_ends (end_by (void_by (by_off_range j))) i h = absurd (let e : ◌≡◌ {A = Option ℕ} None (Some i) = h in cc)
-front_ends (narrow_by (by_combination ms)) i h = absurd (let e : ◌≡◌ {A = Option ℕ} None (Some i) = h in cc)
-front_ends (end_by (void_by (by_combination ms))) i h = absurd (let e : ◌≡◌ {A = Option ℕ} None (Some i) = h in cc)
-front_ends (mark_by (ban_atom j k)) i h = (codes "ban " ++ decimal j, refl)
-front_ends (end_by false_form) i h = absurd (let e : ◌≡◌ {A = Option ℕ} None (Some i) = h in cc)
-front_ends (end_by (by_lemma k)) i h = (codes "by", refl)
-front_ends (branch_by (cut_axis axis c)) i h = absurd (let e : ◌≡◌ {A = Option ℕ} None (Some i) = h in cc)
-front_ends (branch_by (flip_axis axis)) i h = absurd (let e : ◌≡◌ {A = Option ℕ} None (Some i) = h in cc)
-front_ends (branch_by (case_atom j)) i h = absurd (let e : ◌≡◌ {A = Option ℕ} None (Some i) = h in cc)
-front_ends (stay_by open_state) i h = absurd (let e : ◌≡◌ {A = Option ℕ} None (Some i) = h in cc)
-front_ends (stay_by (stuck_atom j)) i h = absurd (let e : ◌≡◌ {A = Option ℕ} None (Some i) = h in cc)
+front_ends r i h = front-ends (is-naming r i h)
+
+with-number : (f : ℕ → ℕ) {r : Line} {i : ℕ} → IsNaming r i → rule_text (line_by f r) ≡ lemma_front r ++ decimal (f i)
+with-number f (by_names i) = refl
+with-number f (ban_names j i) = ap (λ (xs : List ℕ). codes "ban " ++ xs) (sym (append_assoc (decimal j) (32 ∷ []) (decimal (f i))))
 
 -- the line with another number
 pub front_and_number : (r : Line) (i : ℕ) → lemma_named r ≡ Some i → (f : ℕ → ℕ) → rule_text (line_by f r) ≡ lemma_front r ++ decimal (f i)
-front_and_number (narrow_by (by_range j)) i h f = absurd (let e : ◌≡◌ {A = Option ℕ} None (Some i) = h in cc)
-front_and_number (mark_by (unit_atom j)) i h f = absurd (let e : ◌≡◌ {A = Option ℕ} None (Some i) = h in cc)
-front_and_number (end_by (void_by (by_range j))) i h f = absurd (let e : ◌≡◌ {A = Option ℕ} None (Some i) = h in cc)
-front_and_number (narrow_by (by_off_range j)) i h f = absurd (let e : ◌≡◌ {A = Option ℕ} None (Some i) = h in cc)
-front_and_number (end_by (void_by (by_off_range j))) i h f = absurd (let e : ◌≡◌ {A = Option ℕ} None (Some i) = h in cc)
-front_and_number (narrow_by (by_combination ms)) i h f = absurd (let e : ◌≡◌ {A = Option ℕ} None (Some i) = h in cc)
-front_and_number (end_by (void_by (by_combination ms))) i h f = absurd (let e : ◌≡◌ {A = Option ℕ} None (Some i) = h in cc)
-front_and_number (mark_by (ban_atom j k)) i h f =
-    let e : k ≡ i = cc in
-    ap (λ (xs : List ℕ). codes "ban " ++ xs) (sym (append_assoc (decimal j) (32 ∷ []) (decimal (f k)))) ∙ ap (λ (n : ℕ). (codes "ban " ++ (decimal j ++ (32 ∷ []))) ++ decimal (f n)) e
-front_and_number (end_by false_form) i h f = absurd (let e : ◌≡◌ {A = Option ℕ} None (Some i) = h in cc)
-front_and_number (end_by (by_lemma k)) i h f = let e : k ≡ i = cc in ap (λ (n : ℕ). codes "by " ++ decimal (f n)) e
-front_and_number (branch_by (cut_axis axis c)) i h f = absurd (let e : ◌≡◌ {A = Option ℕ} None (Some i) = h in cc)
-front_and_number (branch_by (flip_axis axis)) i h f = absurd (let e : ◌≡◌ {A = Option ℕ} None (Some i) = h in cc)
-front_and_number (branch_by (case_atom j)) i h f = absurd (let e : ◌≡◌ {A = Option ℕ} None (Some i) = h in cc)
-front_and_number (stay_by open_state) i h f = absurd (let e : ◌≡◌ {A = Option ℕ} None (Some i) = h in cc)
-front_and_number (stay_by (stuck_atom j)) i h f = absurd (let e : ◌≡◌ {A = Option ℕ} None (Some i) = h in cc)
+front_and_number r i h f = with-number f (is-naming r i h)
 
-same-line : (r : Line) → line_by (λ n. n) r ≡ r
-same-line (narrow_by (by_range j)) = refl
-same-line (mark_by (unit_atom j)) = refl
-same-line (end_by (void_by (by_range j))) = refl
-same-line (narrow_by (by_off_range j)) = refl
-same-line (end_by (void_by (by_off_range j))) = refl
-same-line (narrow_by (by_combination ms)) = refl
-same-line (end_by (void_by (by_combination ms))) = refl
-same-line (mark_by (ban_atom j i)) = refl
-same-line (end_by false_form) = refl
-same-line (end_by (by_lemma i)) = refl
-same-line (branch_by (cut_axis axis c)) = refl
-same-line (branch_by (flip_axis axis)) = refl
-same-line (branch_by (case_atom j)) = refl
-same-line (stay_by open_state) = refl
-same-line (stay_by (stuck_atom j)) = refl
+same-line : {r : Line} {i : ℕ} → IsNaming r i → line_by (λ n. n) r ≡ r
+same-line (by_names i) = refl
+same-line (ban_names j i) = refl
 
 pub its_number : (r : Line) (i : ℕ) → lemma_named r ≡ Some i → rule_text r ≡ lemma_front r ++ decimal i
-its_number r i h = ap rule_text (sym (same-line r)) ∙ front_and_number r i h (λ n. n)
+its_number r i h = ap rule_text (sym (same-line (is-naming r i h))) ∙ front_and_number r i h (λ n. n)
+
+number-counts : {r : Line} {i : ℕ} → IsNaming r i → IsSpelled (rule_line r) → i < 2 ^ 32
+number-counts (by_names i) s = s.0
+number-counts (ban_names j i) s = s.0.1
 
 pub number_counts : (r : Line) (i : ℕ) → lemma_named r ≡ Some i → IsSpelled (rule_line r) → i < 2 ^ 32
-number_counts (narrow_by (by_range j)) i h s = absurd (let e : ◌≡◌ {A = Option ℕ} None (Some i) = h in cc)
-number_counts (mark_by (unit_atom j)) i h s = absurd (let e : ◌≡◌ {A = Option ℕ} None (Some i) = h in cc)
-number_counts (end_by (void_by (by_range j))) i h s = absurd (let e : ◌≡◌ {A = Option ℕ} None (Some i) = h in cc)
-number_counts (narrow_by (by_off_range j)) i h s = absurd (let e : ◌≡◌ {A = Option ℕ} None (Some i) = h in cc)
-number_counts (end_by (void_by (by_off_range j))) i h s = absurd (let e : ◌≡◌ {A = Option ℕ} None (Some i) = h in cc)
-number_counts (narrow_by (by_combination ms)) i h s = absurd (let e : ◌≡◌ {A = Option ℕ} None (Some i) = h in cc)
-number_counts (end_by (void_by (by_combination ms))) i h s = absurd (let e : ◌≡◌ {A = Option ℕ} None (Some i) = h in cc)
-number_counts (mark_by (ban_atom j k)) i h s = let e : k ≡ i = cc in omega (arith, e, s.0.1)
-number_counts (end_by false_form) i h s = absurd (let e : ◌≡◌ {A = Option ℕ} None (Some i) = h in cc)
-number_counts (end_by (by_lemma k)) i h s = let e : k ≡ i = cc in omega (arith, e, s.0)
-number_counts (branch_by (cut_axis axis c)) i h s = absurd (let e : ◌≡◌ {A = Option ℕ} None (Some i) = h in cc)
-number_counts (branch_by (flip_axis axis)) i h s = absurd (let e : ◌≡◌ {A = Option ℕ} None (Some i) = h in cc)
-number_counts (branch_by (case_atom j)) i h s = absurd (let e : ◌≡◌ {A = Option ℕ} None (Some i) = h in cc)
-number_counts (stay_by open_state) i h s = absurd (let e : ◌≡◌ {A = Option ℕ} None (Some i) = h in cc)
-number_counts (stay_by (stuck_atom j)) i h s = absurd (let e : ◌≡◌ {A = Option ℕ} None (Some i) = h in cc)
+number_counts r i h s = number-counts (is-naming r i h) s
 
 -- ---- digits
 

@@ -1,7 +1,7 @@
 -- What the trees at a place yield, by their first lines.
 use Rattle.std.proofs.Common.{◌≡◌, ℕ, List, [], ◌∷◌, ◌++◌, map, Bool, true, false, cond, refl, sym, ap, subst, ◌∙◌, append_assoc}
 use Rattle.std.specs.List.{AllByRecursion}
-use Rattle.cover_model.specs.Rules.{Line, by, narrow_by, by_range, by_off_range, by_combination, end_by, void_by, false_form, by_lemma, mark_by, unit_atom, ban_atom, branch_by, cut_axis, flip_axis, case_atom, stay_by, open_state, stuck_atom}
+use Rattle.cover_model.specs.Rules.{Line, narrow_by, end_by, void_by, false_form, by_lemma, mark_by, unit_atom, ban_atom, branch_by, stay_by}
 use Rattle.cover_model.specs.Derivation.{Tree, leaf, then, fork, tree_lines}
 use Rattle.cert_read.specs.LineText.{text_of_lines}
 use Rattle.cert_joined.specs.Joined.{Joins, none, one, ends, steps, forks, differ, first_line, going_on, leaves_at_once}
@@ -16,38 +16,24 @@ use Rattle.cert_join.proofs.Meetings.{below, second, all_below, all_second, behi
 -- ---- lines with other numbers
 
 pub arity_by : (f : ℕ → ℕ) (l : Line) → arity (line_by f l) ≡ arity l
-arity_by f (mark_by (ban_atom j i)) = refl
-arity_by f (end_by (by_lemma i)) = refl
-arity_by f (narrow_by (by_range j)) = refl
-arity_by f (mark_by (unit_atom j)) = refl
-arity_by f (end_by (void_by (by_range j))) = refl
-arity_by f (narrow_by (by_off_range j)) = refl
-arity_by f (end_by (void_by (by_off_range j))) = refl
-arity_by f (narrow_by (by_combination ms)) = refl
-arity_by f (end_by (void_by (by_combination ms))) = refl
+arity_by f (narrow_by n) = refl
+arity_by f (end_by (void_by n)) = refl
 arity_by f (end_by false_form) = refl
-arity_by f (branch_by (cut_axis axis c)) = refl
-arity_by f (branch_by (flip_axis axis)) = refl
-arity_by f (branch_by (case_atom j)) = refl
-arity_by f (stay_by open_state) = refl
-arity_by f (stay_by (stuck_atom j)) = refl
+arity_by f (end_by (by_lemma i)) = refl
+arity_by f (mark_by (unit_atom j)) = refl
+arity_by f (mark_by (ban_atom j i)) = refl
+arity_by f (branch_by b) = refl
+arity_by f (stay_by t) = refl
 
 pub leaves_by : (f : ℕ → ℕ) (l : Line) → leaves (line_by f l) ≡ leaves l
-leaves_by f (mark_by (ban_atom j i)) = refl
-leaves_by f (end_by (by_lemma i)) = refl
-leaves_by f (narrow_by (by_range j)) = refl
-leaves_by f (mark_by (unit_atom j)) = refl
-leaves_by f (end_by (void_by (by_range j))) = refl
-leaves_by f (narrow_by (by_off_range j)) = refl
-leaves_by f (end_by (void_by (by_off_range j))) = refl
-leaves_by f (narrow_by (by_combination ms)) = refl
-leaves_by f (end_by (void_by (by_combination ms))) = refl
+leaves_by f (narrow_by n) = refl
+leaves_by f (end_by (void_by n)) = refl
 leaves_by f (end_by false_form) = refl
-leaves_by f (branch_by (cut_axis axis c)) = refl
-leaves_by f (branch_by (flip_axis axis)) = refl
-leaves_by f (branch_by (case_atom j)) = refl
-leaves_by f (stay_by open_state) = refl
-leaves_by f (stay_by (stuck_atom j)) = refl
+leaves_by f (end_by (by_lemma i)) = refl
+leaves_by f (mark_by (unit_atom j)) = refl
+leaves_by f (mark_by (ban_atom j i)) = refl
+leaves_by f (branch_by b) = refl
+leaves_by f (stay_by t) = refl
 
 renumbered-append : (f : ℕ → ℕ) (xs ys : List Line) → map (λ (l : Line). rule_text (line_by f l)) (xs ++ ys) ≡ map (λ (l : Line). rule_text (line_by f l)) xs ++ map (λ (l : Line). rule_text (line_by f l)) ys
 renumbered-append f [] ys = refl

@@ -1,8 +1,8 @@
 -- What a line of a tree leaves of its state, which its first word tells, and the lemma that it names.
-use Rattle.std.specs.Prelude.{◌≡◌, ℕ, ◌+◌, ◌-◌, ◌^◌, ◌<◌, ◌≤◌, List, [], ◌∷◌, ◌++◌, codes, decimal, Bool, true, false, min, length, Option, Some, None, Result, Ok, Err, IfSome, slice_get}
+use Rattle.std.specs.Prelude.{◌≡◌, ℕ, ◌+◌, ◌-◌, ◌^◌, ◌<◌, ◌≤◌, List, [], ◌∷◌, ◌++◌, codes, decimal, Bool, true, false, min, length, Option, Some, None, Result, Ok, Err, IfSome, is_some, slice_get}
 use Rattle.std.specs.declared.alloc.AllocError.{AllocError}
-use Rattle.cover_line.specs.Words.{RuleWord, pull_word, unit_word, ban_word, push_word, by_word, cut_word, flip_word, case_word, open_word, stuck_word, combine_word, word_of}
-use Rattle.cover_model.specs.Rules.{Line, ban, by, end_by, by_lemma, mark_by, ban_atom}
+use Rattle.cover_line.specs.Words.{RuleWord, pull_word, unit_word, ban_word, push_word, cut_word, flip_word, case_word, open_word, stuck_word, combine_word}
+use Rattle.cover_model.specs.Rules.{Line, narrow_by, end_by, by_lemma, mark_by, ban_atom, branch_by, stay_by, open_state, stuck_atom}
 use Rattle.cert_read.specs.CertLine.{CertLine, rule_line}
 use Rattle.cert_read.specs.LineText.{line_text}
 use Rattle.cert_joined.specs.Covers.{Arity, ends, goes_on, splits, line_by, numbered}
@@ -15,6 +15,7 @@ rule_text l = line_text (rule_line l)
 
 -- ---- what it leaves
 
+-- by its first word
 abbrev pub kind_of_word : RuleWord → Left
 kind_of_word pull_word = One
 kind_of_word unit_word = One
@@ -29,7 +30,12 @@ kind_of_word stuck_word = Stuck
 kind_of_word w = Nothing
 
 abbrev pub left_kind : Line → Left
-left_kind l = kind_of_word (word_of l)
+left_kind (narrow_by n) = One
+left_kind (end_by e) = Nothing
+left_kind (mark_by m) = One
+left_kind (branch_by b) = Two
+left_kind (stay_by open_state) = Open
+left_kind (stay_by (stuck_atom j)) = Stuck
 
 -- how many trees such a line has below it
 abbrev pub arity_of : Left → Arity
@@ -51,24 +57,18 @@ waiting_behind k before = before - 1
 
 -- ---- the lemma that it names
 
-abbrev pub names_by_word : RuleWord → Bool
-names_by_word by_word = true
-names_by_word ban_word = true
-names_by_word w = false
-
 abbrev pub lemma_named : Line → Option ℕ
 lemma_named (end_by (by_lemma i)) = Some i
 lemma_named (mark_by (ban_atom j i)) = Some i
 lemma_named l = None
 
--- whether a line names one
-abbrev pub does_name : CertLine → Bool
-does_name (rule_line l) = names_by_word (word_of l)
-does_name l = false
-
 abbrev pub lemma_named_in : CertLine → Option ℕ
 lemma_named_in (rule_line l) = lemma_named l
 lemma_named_in l = None
+
+-- whether a line names one
+abbrev pub does_name : CertLine → Bool
+does_name l = is_some (lemma_named_in l)
 
 -- the line, where its lemma has another number
 abbrev pub renumbered : (ℕ → ℕ) → CertLine → CertLine
