@@ -11,8 +11,8 @@ use ival::{Domain, Space};
 use relaxation::{Elimination, Refutation, Relaxation, Side, are_many_equations, is_asking};
 use std::alloc::{AllocError, Global};
 
-// Whether the enclosure of atom j, which is marked, does not lie where the mark asks for.
-fn is_asking_at(patch: &Patch, j: usize) -> bool {
+/// Whether atom j is marked, and its enclosure does not lie where the mark asks for.
+pub fn is_asking_at(patch: &Patch, j: usize) -> bool {
     let margin_bits = patch.margins().margin_bits;
     let lits = patch.reached().lits();
     is_asking(patch.problem(), margin_bits, lits, patch.rows(), j)

@@ -5,7 +5,7 @@ use Rattle.command_line.specs.declared.request.Options.{Options}
 use Rattle.command_line.specs.Words.{Command, Join, solve, minimize, check, demo, upgrade, plan, resume, join}
 use Rattle.gen_script.specs.Demo.{demo_script}
 use Rattle.poly_graph.specs.Problem.{Problem}
-use Rattle.cover_model.specs.State.{Loosenings}
+use Rattle.cover_model.specs.State.{Loosenings, in_version}
 use Rattle.width_plan.specs.Plan as width
 use Rattle.width_plan.specs.Plan.{IsPlan, least_bits, no_atom, no_axis}
 use Rattle.cert_model.specs.Due.{Value}
@@ -14,7 +14,7 @@ use Rattle.cert_model.specs.AnswerText.{check_text, goal_text, solve_text, verdi
 use Rattle.cert_model.specs.Least.{GoalVerdict, goal_verdict}
 use Rattle.goal_limit.specs.Limits.{has_room}
 use Rattle.cert_model.specs.Session.{SessionVerdict, AreAccepted, session_verdict}
-use Rattle.cert_upgrade.specs.Upgraded.{in_newest, upgraded}
+use Rattle.cert_upgrade.specs.Upgraded.{upgraded}
 use Rattle.check_run.specs.declared.status.Status.TheVariants.{Answered, CertRefused, ScriptRefused, Usage}
 use Rattle.script_fault.specs.declared.fault.ScriptFault.{ScriptFault}
 use Rattle.check_run.specs.Plans.{least_bits_text, no_atom_text, no_axis_text}
@@ -67,11 +67,11 @@ CanCheck goal ps bound name cert_in course = course ≡ behind ((CertIn, name) �
 abbrev pub upgraded_text : List ℕ
 upgraded_text = codes "upgraded\n"
 
--- A certificate that is accepted is written in the newest version for so many checks, in which it is accepted with the same values. Another is
--- refused at its first fault, and none is written.
+-- A certificate that is accepted is written in the newest version, in which it is accepted with the same values. Another is refused at its
+-- first fault, and none is written.
 abbrev pub CanUpgradeBy : SessionVerdict → List (Problem × Bool) → Option ℕ → List ℕ → List ℕ → Course → Type 0
 CanUpgradeBy (accepted s values) ps bound out cert_in course =
-    AreAccepted ps bound (upgraded (length ps) cert_in) (in_newest (length ps) s) values × (course ≡ gives out (upgraded (length ps) cert_in) upgraded_text)
+    AreAccepted ps bound (upgraded cert_in) (in_version 5 s) values × (course ≡ gives out (upgraded cert_in) upgraded_text)
 CanUpgradeBy (refused fault line) ps bound out cert_in course = course ≡ verdict_course (refused fault line)
 
 -- `upgrade`: so by the verdict of what CertIn held

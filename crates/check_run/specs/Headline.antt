@@ -11,14 +11,14 @@ use Rattle.poly_graph.specs.Problem.{Problem}
 use Rattle.interval_model.specs.Space.{Space}
 use Rattle.width_plan.specs.Plan as width
 use Rattle.width_plan.specs.Plan.{least_bits}
-use Rattle.cover_model.specs.State.{Loosenings, margin_of, delta_of}
+use Rattle.cover_model.specs.State.{Loosenings, in_version, margin_of, delta_of}
 use Rattle.cert_model.specs.Due.{CertFault, Standing, Value, at_point, left_open, coordinates}
 use Rattle.cert_model.specs.Accepted.{IsAccepted, refused, verdict}
 use Rattle.cert_model.specs.AnswerText.{text_line, unsat_text, delta_sat_text, check_text, least_text, solve_text, verdict_text}
 use Rattle.cert_model.specs.Least.{Least, least, upper_at, IsGoalAccepted, goal_verdict}
 use Rattle.goal_limit.specs.Limits.{has_room}
 use Rattle.cert_model.specs.Session.{AreAccepted, session_verdict}
-use Rattle.cert_upgrade.specs.Upgraded.{in_newest, upgraded}
+use Rattle.cert_upgrade.specs.Upgraded.{upgraded}
 use Rattle.headline.specs.Laws.{HasNoPoint}
 use Rattle.headline.specs.Least.{HasLowerBound, IsGoalAtMost}
 use Rattle.headline.specs.Near.{IsNearDeclaredBox}
@@ -140,7 +140,7 @@ pub record IsResumed (words : Resume) (script cert_in : List ℕ) (old new : Sig
   pub written : new.cert_out ≡ appended old.cert_out cert
   pub more : IsMore problem words.bound words cert_in loosenings read cert text
   pub answer : new.answer ≡ appended old.answer text
-  pub say : IsTrueValue words.bound (in_newest 1 loosenings) (commands_of words.bound script) more.value
+  pub say : IsTrueValue words.bound (in_version more.version loosenings) (commands_of words.bound script) more.value
 
 -- What was written as certificate is accepted for the problem of the script's only check; it joins the covers of the certificates; the answer is the
 -- text of its value, and what that says of the check is so.
@@ -335,16 +335,15 @@ IsTrueRefusal (Some (join words)) script cert_in parts old new =
     AreNotJoined words.bound script parts old new × (new.cert_out ≡ appended old.cert_out [])
 IsTrueRefusal _ script cert_in parts old new = Unit {0}
 
--- The certificate is accepted, and what was written is accepted in the newest version for so many checks, with the same values: the same
--- lines behind the first.
+-- The certificate is accepted, and what was written is accepted in the newest version, with the same values: the same lines behind the first.
 pub record IsUpgraded (bound : Option ℕ) (script cert_in : List ℕ) (old new : Sight) : Type 0 where
   pub problems : List (Problem × Bool)
   pub session : HasSession bound problems script
   pub loosenings : Loosenings
   pub values : List Value
   pub accepted : AreAccepted problems bound cert_in loosenings values
-  pub written : new.cert_out ≡ appended old.cert_out (upgraded (length problems) cert_in)
-  pub again : AreAccepted problems bound (upgraded (length problems) cert_in) (in_newest (length problems) loosenings) values
+  pub written : new.cert_out ≡ appended old.cert_out (upgraded cert_in)
+  pub again : AreAccepted problems bound (upgraded cert_in) (in_version 5 loosenings) values
 
 -- `upgrade` answers where that is so.
 abbrev pub IsTrueUpgrade : Option Command → List ℕ → List ℕ → List (List ℕ) → Sight → Sight → Type 0

@@ -41,14 +41,14 @@ IsReadAsKept (Ok kept) old new = ReadsSome CertIn old new × IsReadToEnd old new
 IsReadAsKept (Err (Fault f)) old new = ReadsSome CertIn old new
 IsReadAsKept (Err Failed) old new = ReadsThenFails CertIn old new
 
--- the one course of a certificate of so many checks that was kept
-pub record IsUpgradeOf (checks : ℕ) (name kept : List ℕ) (course : Course) : Type 0 where
-  pub fits : length (upgraded checks kept) ≤ most_bytes
-  pub same : course ≡ gives name (upgraded checks kept) upgraded_text
+-- the one course of a certificate that was kept
+pub record IsUpgradeOf (name kept : List ℕ) (course : Course) : Type 0 where
+  pub fits : length (upgraded kept) ≤ most_bytes
+  pub same : course ≡ gives name (upgraded kept) upgraded_text
 
 -- the run ends on it
-abbrev pub EndsOnUpgraded : ℕ → List ℕ → List ℕ → Sight → Sight → Status → Type 0
-EndsOnUpgraded checks name kept old new status = RunEnds (IsUpgradeOf checks name kept) [] old new status
+abbrev pub EndsOnUpgraded : List ℕ → List ℕ → Sight → Sight → Status → Type 0
+EndsOnUpgraded name kept old new status = RunEnds (IsUpgradeOf name kept) [] old new status
 
 -- a run ends behind its problems, where the port shows a certificate
 abbrev pub EndsOnUpgrade : List (Parts × Bool) → Option ℕ → List ℕ → List ℕ → Sight → Sight → Status → Type 0

@@ -80,20 +80,13 @@ fn read_kept<D: Desk>(
     }
 }
 
-// Writes an accepted certificate of so many checks in the newest version, and says so.
-fn write_upgraded<D: Desk>(
-    alloc: Global,
-    desk: &mut D,
-    name: &str,
-    kept: &[u8],
-    checks: usize,
-) -> Status
-    ensures ends { EndsOnUpgraded checks name.now kept.now
-        (D.sight desk.old) (D.sight desk.new) result }
+// Writes an accepted certificate in the newest version, and says so.
+fn write_upgraded<D: Desk>(alloc: Global, desk: &mut D, name: &str, kept: &[u8]) -> Status
+    ensures ends { EndsOnUpgraded name.now kept.now (D.sight desk.old) (D.sight desk.new) result }
     ensures same { SameIn (D.sight desk.old) (D.sight desk.new) }
     ensures cause { UpgradeHasCause (D.sight desk.old) (D.sight desk.new) result }
 {
-    match upgrade(alloc, kept, checks) {
+    match upgrade(alloc, kept) {
         Ok(text) => finish(desk, name, &text, b"upgraded\n"),
         Err(_) => Status::NoMemory,
     }
@@ -122,7 +115,7 @@ pub fn upgrade_session<D: Desk>(
         Err(Denied::Memory) => return Status::NoMemory,
     }
     match read_kept(alloc, desk, session, bound) {
-        Ok(kept) => write_upgraded(alloc, desk, out, &kept, session.len()),
+        Ok(kept) => write_upgraded(alloc, desk, out, &kept),
         Err(Unconfirmed::Fault(fault)) => refuse(alloc, desk, fault),
         Err(Unconfirmed::Failed) => Status::InFailed,
     }

@@ -15,7 +15,6 @@ use Rattle.cover_model.specs.State.{Loosenings, delta_of, sure_at, domain_is, su
 use Rattle.cover_model.specs.Fits.{IsShownAt}
 use Rattle.cover_data.specs.Margins.{loosenings_of}
 use Rattle.cover_data.specs.declared.margins.Margins.{Margins}
-use Rattle.cover_data.specs.declared.margins.Options.{Options}
 use Rattle.cert_model.specs.Limited.{is_limit, limited}
 use Rattle.cert_model.proofs.Limited.{limited_term}
 use Rattle.goal_limit.specs.Limits.{has_room, takes_limit}
@@ -84,8 +83,3 @@ pub point_of : (a : Aim) → IsReady a → (l : Limited) (b : BookModel) → IsS
 point_of a r l b s x e =
     shown-before a.problem.now r.whole a.goal r.goal l.bits (dyadic_of l.limit) s.takes (problem_in b) s.problem
     (margins_of b.options) (margins_of a.options.now) s.margins x (book-shows b s.book x e)
-
--- ---- margins
-
-pub margins_are : (m : Margins) (o : Options) → m.delta_bits ≡ o.delta_bits → m.margin_bits ≡ o.margin_bits → m.least_bits ≡ o.least_bits → m ≡ margins_of o
-margins_are m o e f g = λ i. record { delta_bits = e i; margin_bits = f i; least_bits = g i }

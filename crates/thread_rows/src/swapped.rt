@@ -112,7 +112,7 @@ fn ends_in_cut(problem: &Problem, patch: &mut Patch, atoms: u32) -> bool
             return false;
         }
     }
-    patch.cut().is_ok()
+    patch.cut(0).is_ok()
 }
 
 // The patch that marks so many atoms in the state and then cuts it.
