@@ -1,5 +1,5 @@
 -- What is done with the next line of one certificate.
-use Rattle.std.specs.Prelude.{◌≡◌, ℕ, List, [], ◌∷◌, ◌++◌, Bool, true, false, None, Result, Ok, Err, codes}
+use Rattle.std.specs.Prelude.{◌≡◌, ◌≢◌, ℕ, List, [], ◌∷◌, ◌++◌, Bool, true, false, None, Result, Ok, Err, codes}
 use Rattle.cert_join.specs.declared.joiner.Step.{Step}
 use Rattle.cert_join.specs.declared.joiner.Step.TheVariants.{Read, On, Over}
 use Rattle.cert_join.specs.declared.stop.Unjoined.{Unjoined}
@@ -12,9 +12,10 @@ CopiesNext cert ls old (Ok Over) new s = IsFirst ls None × (new ≡ old)
 CopiesNext cert ls old (Ok (Read part)) new s = (new ≡ old) × IsBefore cert ls s
 CopiesNext cert ls old (Err e) new s = Unit {0}
 
--- It is `end`, which was not read before; or more has to be read first; or `end` was read, and there is none, or it is too long.
+-- It is `end`, which was not read before; or more has to be read first; or `end` was read, and there is none, or it is too long;
+-- or it is another line, or one behind `end`.
 abbrev pub EndsNext : List ℕ → List (List ℕ) → Bool → Result Step Unjoined → Bool → Spot → Type 0
 EndsNext cert ls was (Ok On) is s = (was ≡ false) × (is ≡ true) × ((rest : List (List ℕ)) × (ls ≡ codes "end" ∷ rest) × IsBefore cert rest s)
 EndsNext cert ls was (Ok Over) is s = (was ≡ true) × IsFirst ls None
 EndsNext cert ls was (Ok (Read part)) is s = (is ≡ was) × IsBefore cert ls s
-EndsNext cert ls was (Err e) is s = Unit {0}
+EndsNext cert ls was (Err e) is s = (was ≡ true → ls ≢ []) × (was ≡ false → (rest : List (List ℕ)) → ls ≢ codes "end" ∷ rest)

@@ -1,11 +1,12 @@
 // The first five lines of each certificate.
-ghost use Rattle.std.specs.Prelude.{◌≡◌, ◌≢◌, ◌++◌, ◌∷◌, ◌<◌, ◌^◌, [], ℕ, List, true, false, Some, Ok, OnOk, slice_get, drop, map};
-ghost use Rattle.cert_read.specs.CertLine.{cover};
+ghost use Rattle.std.specs.Prelude.{◌≡◌, ◌≢◌, ◌++◌, ◌∷◌, ◌<◌, ◌^◌, [], ℕ, List, true, false, IsTrue, Some, Ok, OnOk, slice_get, drop, map};
+ghost use Rattle.cert_model.specs.Due.{is_version};
+ghost use Rattle.cert_read.specs.CertLine.{cover, version};
 ghost use Rattle.cert_read.specs.LineText.{line_text};
 ghost use Rattle.cert_joined.specs.Covers.{Cover, AreTextsOf, IsTextOf};
 ghost use Rattle.cert_join.specs.Ahead.{AreBefore};
 ghost use Rattle.cert_join.specs.Spot.{Spot, IsBefore};
-ghost use Rattle.cert_join.specs.Heads.{all_lines, head_text, HasRead, IsBehind, IsReading, ReadsHeads, ReadsOf, TakesLine};
+ghost use Rattle.cert_join.specs.Heads.{all_lines, head_text, HasRead, IsBehind, IsReading, IsUnlike, ReadsHeads, ReadsOf, TakesLine};
 
 use crate::cursor::Cursor;
 use crate::joiner::{Step, apart};
@@ -89,7 +90,9 @@ impl Heads {
 
     // Takes the first line of a certificate, and says whether it is that of a version for one check.
     fn take_version(&mut self, line: &[u8]) -> bool
-        ensures { self.new ≡ record self.old { has_old = self.new.has_old } }
+        ensures same { self.new ≡ record self.old { has_old = self.new.has_old } }
+        ensures other { result ≡ false → (n : ℕ) → IsTrue (is_version n) →
+            line.now ≢ line_text (version n) }
     {
         let is_old = line == b"dpoly 1".as_slice();
         self.has_old = self.has_old || is_old;
@@ -98,7 +101,8 @@ impl Heads {
 
     // Takes the next line of a certificate, and says whether it may stand there.
     fn take(&mut self, line: &[u8]) -> Result<bool, AllocError>
-        ensures { result ≡ Ok true → TakesLine line.now self.old self.new }
+        ensures takes { result ≡ Ok true → TakesLine line.now self.old self.new }
+        ensures unlike { result ≡ Ok false → IsUnlike line.now self.old }
     {
         let is_first = self.part == 0;
         match self.row {
@@ -117,6 +121,7 @@ impl Heads {
         ensures cover { (n : ℕ) → n < 2 ^ 32 → line.now ≡ line_text (cover n) → result ≡ Ok true →
             (self.new.point ≡ self.old.point)
             × (self.new.counts.items ≡ self.old.counts.items ++ (n ∷ [])) }
+        ensures other { result ≡ Ok false → (n : ℕ) → n < 2 ^ 32 → line.now ≢ line_text (cover n) }
     {
         match count_in(line) {
             Some(count) => match self.counts.push(count) {
