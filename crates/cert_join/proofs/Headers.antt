@@ -296,15 +296,6 @@ reads cert covers c old mid new s s' l t e r b has first k behind pass =
 
 -- ---- a line that may not stand there
 
--- one of the first five lines is next, and none is too long
-pub line_there : (cert : List ℕ) (c : Cover) (row : ℕ) → IsTextOf c cert → row < 5 → IsFirst (drop row (all_lines c)) None → ⊥
-line_there cert c zero t h long = omega (arith, long, t.spelled.0.1)
-line_there cert c (suc zero) t h long = omega (arith, long, t.spelled.1.0.1)
-line_there cert c (suc (suc zero)) t h long = omega (arith, long, t.spelled.1.1.0.1)
-line_there cert c (suc (suc (suc zero))) t h long = omega (arith, long, t.spelled.1.1.1.0.1)
-line_there cert c (suc (suc (suc (suc zero)))) t h long = omega (arith, long, t.spelled.1.1.1.1.0.1)
-line_there cert c (suc (suc (suc (suc (suc row))))) t h long = absurd (omega (arith, h))
-
 all_get : (P : Cover → Type 0) (covers : List Cover) (i : ℕ) (c : Cover) → AllByRecursion P covers → slice_get covers i ≡ Some c → P c
 all_get P [] i c a e = absurd (none_some c e)
 all_get P (d ∷ covers) zero c a e = subst P (some_same d c e) a.0
@@ -319,7 +310,7 @@ kept_by f k part row count (first ∷ others) c l text h n e p at is same =
 
 -- no line of covers that may be joined is such a one
 pub none_unlike : (cert : List ℕ) (covers : List Cover) (c : Cover) (h : Heads) (l : List ℕ) → IsTextOf c cert → slice_get covers h.part ≡ Some c → HasRead covers h →
-    IsFirst (drop h.row (all_lines c)) (Some l) → IsUnlike l h → AreJoinable covers → ⊥
+    IsFirst (drop h.row (all_lines c)) (Some l) → IsUnlike l h → IsUnjoined covers Unlike
 none_unlike cert covers c h l t e r has u j =
     let i = is_line c h.row r.row in
     let same : l ≡ i.0 = first_same l i.0 has.0 (drop (suc h.row) (all_lines c)) (sym has.1 ∙ i.1.ahead) in
@@ -350,6 +341,9 @@ goes_on certs covers old spots d a (Ok (Read part)) new s h =
 goes_on certs covers old spots d a (Ok On) new s h =
     record { before = subst (λ (lss : List (List (List ℕ))). AreBefore certs lss (slice_set spots old.part s)) (sym (h.place covers)) (a.put s h.ahead h.before); read = h.read }
 goes_on certs covers old spots d a (Err e) new s h = h
+
+pub some_ahead : (cert : List ℕ) (c : Cover) (row : ℕ) → IsTextOf c cert → row < 5 → 0 < length (drop row (all_lines c))
+some_ahead cert c row t h = let i = is_line c row h in omega (arith, ap length i.1.ahead)
 
 -- ---- the text
 

@@ -19,7 +19,7 @@ use Rattle.cert_join.specs.declared.line.Left.{Left}
 use Rattle.cert_join.specs.declared.line.Left.TheVariants.{Nothing, One, Open}
 use Rattle.cert_join.specs.declared.numbering.Kind.TheVariants.{Other}
 use Rattle.cert_join.specs.Numbered.{word_kind}
-use Rattle.cert_join.specs.Kinds.{kind_of_word, left_kind, rule_text, lemma_front, lemma_named, does_name, lemma_named_in, number_among, renumbered, IsRenumbered}
+use Rattle.cert_join.specs.Kinds.{kind_of_word, left_kind, rule_text, lemma_front, lemma_named, does_name, lemma_named_in, renumbered, IsRenumbered}
 use Rattle.cert_join.proofs.Spaced.{both_pass, split_spaced}
 
 -- ---- what a first word tells
@@ -306,30 +306,13 @@ decimal_lacks n h = digits-lack (decimal n) (digits_decimal model n (omega (arit
 
 -- ---- the line with the number that is given
 
-number-there : (numbers : List ℕ) (i n : ℕ) → slice_get numbers i ≡ Some n → (i < length numbers) × (n ≡ get_or numbers i 0)
-number-there numbers i n e = (slice_get_within numbers i n e, sym (get_or_from_slice_get numbers i n 0 e))
-
-number-none : (numbers : List ℕ) (i : ℕ) → slice_get numbers i ≡ None → length numbers ≤ i
-number-none numbers i e = ⊎_elim (λ (h : i < length numbers). absurd (let f : ◌≡◌ {A = Option ℕ} None (Some (get_or numbers i 0)) = sym e ∙ slice_get-get_or numbers i 0 h in cc)) (λ (h : length numbers ≤ i). h) (cases_lt i (length numbers))
-
-pub with_number : (r : Line) (i : ℕ) (numbers old new front : List ℕ) (named : Option ℕ) (n : ℕ) → lemma_named r ≡ Some i
-    → front ≡ lemma_front r → named ≡ Some i → Some n ≡ number_among numbers named → new ≡ old ++ (front ++ decimal n)
-    → IsRenumbered numbers (rule_line r) old new (Ok true)
-with_number r i numbers old new front named n h f g e k =
-    let at = number-there numbers i n (sym (e ∙ ap (number_among numbers) g)) in (
-      k ∙ ap₂ (λ (xs : List ℕ) (m : ℕ). old ++ (xs ++ decimal m)) f at.1 ∙ ap (λ (xs : List ℕ). old ++ xs) (sym (front_and_number r i h (numbered numbers))),
-      let P : Option ℕ → Type 0 = λ o. IfSome o (λ k. k < length numbers) in subst P (sym h) at.0,
-    )
-
-pub without_number : (r : Line) (i : ℕ) (numbers : List ℕ) (named : Option ℕ) → lemma_named r ≡ Some i → named ≡ Some i
-    → None ≡ number_among numbers named → (k : ℕ) × (lemma_named r ≡ Some k) × (length numbers ≤ k)
-without_number r i numbers named h g e = (i, h, number-none numbers i (sym (e ∙ ap (number_among numbers) g)))
+pub with_number : (r : Line) (i : ℕ) (numbers old new front : List ℕ) (n : ℕ) → lemma_named r ≡ Some i → front ≡ lemma_front r → n ≡ numbered numbers i
+    → new ≡ old ++ (front ++ decimal n) → IsRenumbered numbers (rule_line r) old new
+with_number r i numbers old new front n h f at k =
+    k ∙ ap₂ (λ (xs : List ℕ) (m : ℕ). old ++ (xs ++ decimal m)) f at ∙ ap (λ (xs : List ℕ). old ++ xs) (sym (front_and_number r i h (numbered numbers)))
 
 -- a line that names none stays
 pub as_it_is : (l : CertLine) (numbers old new text : List ℕ) → does_name l ≡ false → text ≡ line_text l → new ≡ old ++ text
-    → IsRenumbered numbers l old new (Ok true)
+    → IsRenumbered numbers l old new
 as_it_is l numbers old new text h e k =
-    let none = none_named l h (numbered numbers) in (
-      k ∙ ap (λ (xs : List ℕ). old ++ xs) (e ∙ ap line_text (sym none.1)),
-      let P : Option ℕ → Type 0 = λ o. IfSome o (λ k. k < length numbers) in subst P (sym none.0) tt,
-    )
+    let none = none_named l h (numbered numbers) in k ∙ ap (λ (xs : List ℕ). old ++ xs) (e ∙ ap line_text (sym none.1))

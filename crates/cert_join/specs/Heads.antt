@@ -4,12 +4,12 @@ use Rattle.std.specs.List.{AllByRecursion}
 use Rattle.cert_read.specs.CertLine.{CertLine, version, margin, delta, bound, cover}
 use Rattle.cert_read.specs.LineText.{line_text, text_of_lines}
 use Rattle.cert_model.specs.Due.{is_version}
-use Rattle.cert_joined.specs.Covers.{Cover, cover_lines}
+use Rattle.cert_joined.specs.Covers.{Cover, IsCrowded, cover_lines}
 use Rattle.cert_join.specs.declared.heads.Heads.{Heads}
 use Rattle.cert_join.specs.declared.joiner.Step.{Step}
 use Rattle.cert_join.specs.declared.joiner.Step.TheVariants.{Over}
 use Rattle.cert_join.specs.declared.stop.Unjoined.{Unjoined}
-use Rattle.cert_join.specs.declared.stop.Unjoined.TheVariants.{Memory}
+use Rattle.cert_join.specs.declared.stop.Unjoined.TheVariants.{Memory, Unlike, Crowded}
 use Rattle.cert_join.specs.Ahead.{AreBefore}
 use Rattle.cert_join.specs.Spot.{Spot, IsBefore}
 use Rattle.cert_join.specs.Written.{texts_of, text_of, behind_header}
@@ -37,9 +37,11 @@ pub record AreJoinable (covers : List Cover) : Type 0 where
   pub alike : (first : Cover) (others : List Cover) → covers ≡ first ∷ others → AreAlike first covers
   pub versions : AllByRecursion (λ (c : Cover). IsTrue (is_version c.version)) covers
 
--- where the covers may be joined, nothing stops the reading of their certificates but want of memory
-abbrev pub IsStop : List Cover → Unjoined → Type 0
-IsStop covers e = AreJoinable covers → e ≡ Memory
+-- why the covers are not joined: for want of memory, or they may not be, or have too many lemmas
+abbrev pub IsUnjoined : List Cover → Unjoined → Type 0
+IsUnjoined covers Memory = Unit {0}
+IsUnjoined covers Unlike = AreJoinable covers → ⊥
+IsUnjoined covers Crowded = IsCrowded covers
 
 -- ---- what was read
 
@@ -115,7 +117,7 @@ pub record HasReadOf (cert : List ℕ) (covers : List Cover) (c : Cover) (old ne
 abbrev pub ReadsOf : List ℕ → List Cover → Cover → Heads → Result Step Unjoined → Heads → Spot → Type 0
 ReadsOf cert covers c old (Ok Over) new s = ⊥
 ReadsOf cert covers c old (Ok x) new s = HasReadOf cert covers c old new s
-ReadsOf cert covers c old (Err e) new s = IsStop covers e
+ReadsOf cert covers c old (Err e) new s = IsUnjoined covers e
 
 -- ---- all lines
 
@@ -138,4 +140,4 @@ pub record AreHeadsRead (certs : List (List ℕ)) (covers : List Cover) (h : Hea
 abbrev pub ReadsHeads : List (List ℕ) → List Cover → Result Step Unjoined → Heads → List Spot → Type 0
 ReadsHeads certs covers (Ok Over) h spots = AreHeadsRead certs covers h spots
 ReadsHeads certs covers (Ok x) h spots = IsReading certs covers h spots
-ReadsHeads certs covers (Err e) h spots = IsStop covers e
+ReadsHeads certs covers (Err e) h spots = IsUnjoined covers e

@@ -9,7 +9,7 @@ ghost use Rattle.cert_join.specs.Spot.{Spot, IsBefore};
 ghost use Rattle.cert_join.specs.Heads.{all_lines, head_text, HasRead, IsBehind, IsReading, IsUnlike, ReadsHeads, ReadsOf, TakesLine};
 
 use crate::cursor::Cursor;
-use crate::joiner::{Step, apart};
+use crate::joiner::Step;
 use crate::line::number_of;
 use crate::stop::Unjoined;
 use std::alloc::{AllocError, Global};
@@ -169,21 +169,13 @@ impl Heads {
             IsBefore cert (drop self.old.row (all_lines c)) cursor.old →
             ReadsOf cert covers c self.old result self.new cursor.new }
     {
-        let part = self.part;
-        match cursor.next(part) {
-            Ok(true) => {}
-            Ok(false) => return Ok(Step::Read(part)),
-            Err(unjoined) => return Err(unjoined),
+        if !cursor.is_ready() {
+            return Ok(Step::Read(self.part));
         }
-        let is_good = match cursor.line() {
-            Some(line) => match self.take(line) {
-                Ok(is_good) => is_good,
-                Err(_) => return Err(Unjoined::Memory),
-            },
-            None => false,
-        };
-        if !is_good {
-            return Err(apart(part, cursor));
+        match self.take(cursor.text()) {
+            Ok(true) => {}
+            Ok(false) => return Err(Unjoined::Unlike),
+            Err(_) => return Err(Unjoined::Memory),
         }
         cursor.pass();
         self.pass();

@@ -21,4 +21,4 @@ mod trees;
 mod weighing;
 
 pub use drafting::{Joined, join};
-pub use stop::{Place, Stop};
+pub use stop::Stop;
