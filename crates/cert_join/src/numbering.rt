@@ -292,7 +292,9 @@ impl Numbering {
 
     // Takes a line of a lemma.
     fn take(&mut self, kind: Kind, line: &[u8]) -> Result<(), AllocError>
-        ensures { OnOk result (TakesLine kind line.now self.old self.new) }
+        ensures takes { OnOk result (TakesLine kind line.now self.old self.new) }
+        ensures odd { kind ≢ Kind.Lemma → self.old.is_in_state ≡ false →
+            length self.old.own.items ≡ 0 → self.new.dropped ≡ true }
     {
         match kind {
             Kind::Lemma => {

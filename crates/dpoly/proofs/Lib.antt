@@ -2,6 +2,7 @@ pub mod ReadAlone
 pub mod Causes
 pub mod Demo
 pub mod Halting
+pub mod Joinable
 pub mod Joining
 pub mod Minimizing
 pub mod Planning
