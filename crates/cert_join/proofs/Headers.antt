@@ -262,43 +262,43 @@ all_read certs covers h spots t r n = let a = at_end h.part h.row covers certs s
 read_more : (cert : List ℕ) (covers : List Cover) (c : Cover) (old mid new : Heads) (l : List ℕ) →
     IsTextOf c cert → slice_get covers old.part ≡ Some c → HasRead covers old → IsLine c old.row l → TakesLine l old mid → IsBehind mid new → HasRead covers new
 read_more cert covers c old mid new l t e r i k b =
-  let version-read = version-behind covers c old.part old.row old.version mid.version e r.version (λ z. k.version z c.version t.spelled.0.0 (i.version z)) k.same_version in
-  elim (cases_lt old.row 4) [
-  | inl early ↦
-      let lt : mid.row < 4 = omega (arith, k.row, early) in
-      let n : lines_read (record mid { row = suc mid.row }) ≡ suc (lines_read old) = omega (arith, k.row, k.part) in
-      let more : HasRead covers (record mid { row = suc mid.row }) = record {
-        row = omega (arith, lt);
-        version = subst (λ (x : ℕ). mid.version ≡ joined_version (versions (take (suc x) covers))) (sym k.part) version-read;
-        margin = subst (λ (x : ℕ). IsKept margin_line 1 covers x mid.margin.items) (sym n)
-            (keeps margin_line 1 old.part old.row (lines_read old) covers c l old.margin.items mid.margin.items r.row (omega arith) refl e r.margin k.margin i.margin);
-        delta = subst (λ (x : ℕ). IsKept delta_line 2 covers x mid.delta.items) (sym n)
-            (keeps delta_line 2 old.part old.row (lines_read old) covers c l old.delta.items mid.delta.items r.row (omega arith) refl e r.delta k.delta i.delta);
-        bound = subst (λ (x : ℕ). IsKept bound_line 3 covers x mid.bound.items) (sym n)
-            (keeps bound_line 3 old.part old.row (lines_read old) covers c l old.bound.items mid.bound.items r.row (omega arith) refl e r.bound k.bound i.bound);
-        point = (k.early early).0 ∙ r.point;
-        counts = (k.early early).1 ∙ r.counts ∙ ap (λ (x : ℕ). map (λ (y : Cover). length y.lemmas) (take x covers)) (sym k.part);
-      } in
-      subst (HasRead covers) (sym (b.0 lt)) more
-  | inr late ↦
-      let le : 4 ≤ mid.row = omega (arith, k.row, late) in
-      let n : lines_read (record mid { part = suc mid.part; row = 0 }) ≡ suc (lines_read old) = omega (arith, k.part, r.row, late) in
-      let last = k.last late (length c.lemmas) t.spelled.1.1.1.1.0.0 (i.cover late) in
-      let more : HasRead covers (record mid { part = suc mid.part; row = 0 }) = record {
-        row = omega arith;
-        version = subst (λ (x : ℕ). mid.version ≡ joined_version (versions (take (suc x) covers))) (sym k.part) version-read;
-        margin = subst (λ (x : ℕ). IsKept margin_line 1 covers x mid.margin.items) (sym n)
-            (keeps margin_line 1 old.part old.row (lines_read old) covers c l old.margin.items mid.margin.items r.row (omega arith) refl e r.margin k.margin i.margin);
-        delta = subst (λ (x : ℕ). IsKept delta_line 2 covers x mid.delta.items) (sym n)
-            (keeps delta_line 2 old.part old.row (lines_read old) covers c l old.delta.items mid.delta.items r.row (omega arith) refl e r.delta k.delta i.delta);
-        bound = subst (λ (x : ℕ). IsKept bound_line 3 covers x mid.bound.items) (sym n)
-            (keeps bound_line 3 old.part old.row (lines_read old) covers c l old.bound.items mid.bound.items r.row (omega arith) refl e r.bound k.bound i.bound);
-        point = last.0 ∙ r.point;
-        counts = last.1 ∙ ap (λ (x : List ℕ). x ++ (length c.lemmas ∷ [])) r.counts ∙ sym (take_one_more covers old.part c e)
-            ∙ ap (λ (x : ℕ). map (λ (y : Cover). length y.lemmas) (take (suc x) covers)) (sym k.part);
-      } in
-      subst (HasRead covers) (sym (b.1 le)) more
-]
+    let version-read = version-behind covers c old.part old.row old.version mid.version e r.version (λ z. k.version z c.version t.spelled.0.0 (i.version z)) k.same_version in
+    elim (cases_lt old.row 4) [
+      | inl early ↦
+          let lt : mid.row < 4 = omega (arith, k.row, early) in
+          let n : lines_read (record mid { row = suc mid.row }) ≡ suc (lines_read old) = omega (arith, k.row, k.part) in
+          let more : HasRead covers (record mid { row = suc mid.row }) = record {
+            row = omega (arith, lt);
+            version = subst (λ (x : ℕ). mid.version ≡ joined_version (versions (take (suc x) covers))) (sym k.part) version-read;
+            margin = subst (λ (x : ℕ). IsKept margin_line 1 covers x mid.margin.items) (sym n)
+                (keeps margin_line 1 old.part old.row (lines_read old) covers c l old.margin.items mid.margin.items r.row (omega arith) refl e r.margin k.margin i.margin);
+            delta = subst (λ (x : ℕ). IsKept delta_line 2 covers x mid.delta.items) (sym n)
+                (keeps delta_line 2 old.part old.row (lines_read old) covers c l old.delta.items mid.delta.items r.row (omega arith) refl e r.delta k.delta i.delta);
+            bound = subst (λ (x : ℕ). IsKept bound_line 3 covers x mid.bound.items) (sym n)
+                (keeps bound_line 3 old.part old.row (lines_read old) covers c l old.bound.items mid.bound.items r.row (omega arith) refl e r.bound k.bound i.bound);
+            point = (k.early early).0 ∙ r.point;
+            counts = (k.early early).1 ∙ r.counts ∙ ap (λ (x : ℕ). map (λ (y : Cover). length y.lemmas) (take x covers)) (sym k.part);
+          } in
+          subst (HasRead covers) (sym (b.0 lt)) more
+      | inr late ↦
+          let le : 4 ≤ mid.row = omega (arith, k.row, late) in
+          let n : lines_read (record mid { part = suc mid.part; row = 0 }) ≡ suc (lines_read old) = omega (arith, k.part, r.row, late) in
+          let last = k.last late (length c.lemmas) t.spelled.1.1.1.1.0.0 (i.cover late) in
+          let more : HasRead covers (record mid { part = suc mid.part; row = 0 }) = record {
+            row = omega arith;
+            version = subst (λ (x : ℕ). mid.version ≡ joined_version (versions (take (suc x) covers))) (sym k.part) version-read;
+            margin = subst (λ (x : ℕ). IsKept margin_line 1 covers x mid.margin.items) (sym n)
+                (keeps margin_line 1 old.part old.row (lines_read old) covers c l old.margin.items mid.margin.items r.row (omega arith) refl e r.margin k.margin i.margin);
+            delta = subst (λ (x : ℕ). IsKept delta_line 2 covers x mid.delta.items) (sym n)
+                (keeps delta_line 2 old.part old.row (lines_read old) covers c l old.delta.items mid.delta.items r.row (omega arith) refl e r.delta k.delta i.delta);
+            bound = subst (λ (x : ℕ). IsKept bound_line 3 covers x mid.bound.items) (sym n)
+                (keeps bound_line 3 old.part old.row (lines_read old) covers c l old.bound.items mid.bound.items r.row (omega arith) refl e r.bound k.bound i.bound);
+            point = last.0 ∙ r.point;
+            counts = last.1 ∙ ap (λ (x : List ℕ). x ++ (length c.lemmas ∷ [])) r.counts ∙ sym (take_one_more covers old.part c e)
+                ∙ ap (λ (x : ℕ). map (λ (y : Cover). length y.lemmas) (take (suc x) covers)) (sym k.part);
+          } in
+          subst (HasRead covers) (sym (b.1 le)) more
+    ]
 
 place_more : (old mid new : Heads) → old.row < 5 → mid.part ≡ old.part → mid.row ≡ old.row → IsBehind mid new →
     (rest : List Cover) → ahead_of new.part new.row rest ≡ ahead_of old.part (suc old.row) rest
