@@ -261,7 +261,7 @@ abbrev Finishes : List Cover → List ℕ → Type 0
 Finishes covers text = (rest : List ℕ) × IsJoinText covers (text ++ rest)
 
 finished : (first : Cover) (covers : List Cover) (numbers : List (List ℕ)) (u : Tree) (text more : List ℕ) → AreSettled first covers numbers → Joins (trees_by numbers covers) u →
-    text ++ more ≡ (text_of (lines_before_tree first (written_from 0 numbers covers)) ++ text_of (tree_word ∷ [])) ++ tree_text u → Finishes covers text
+    text ++ more ≡ (text_of (lines_before_tree covers first (written_from 0 numbers covers)) ++ text_of (tree_word ∷ [])) ++ tree_text u → Finishes covers text
 finished first covers numbers u text more s j e =
     let last = text_of (end_word ∷ []) in
     (more ++ last, joined_text first covers numbers u text more (more ++ last) s j e refl)
@@ -278,7 +278,7 @@ at-finished certs first others done text numbers (Lemmas s) spots texts at some 
     let word = text_of (tree_word ∷ []) in
     finished first (first ∷ others) numbers u.0 (done ++ text) (due ++ (word ++ tree_text u.0)) at.settled u.1
     (sym (append_assoc (done ++ text) due (word ++ tree_text u.0)) ∙ ap (λ (x : List ℕ). x ++ (word ++ tree_text u.0)) (sym at.whole)
-    ∙ sym (append_assoc (text_of (lines_before_tree first (written_from 0 numbers (first ∷ others)))) word (tree_text u.0)))
+    ∙ sym (append_assoc (text_of (lines_before_tree (first ∷ others) first (written_from 0 numbers (first ∷ others)))) word (tree_text u.0)))
 at-finished certs first others done text numbers (Trees t) spots texts at some =
     let w = due-finished at.course t.task (stacked t.places.items) text spots at.due in
     finished first (first ∷ others) numbers w.1.0 (done ++ text) w.0 at.settled (subst (λ (ts : List Tree). Joins ts w.1.0) at.is.trees_are w.1.1)
