@@ -41,6 +41,11 @@ pub puts_more : (s : Sight) (p : Parts) (b : Option ℕ) (before : List ℕ) (d 
     HasDrafted s p b before d f → new ≡ with_bytes Draft more d → IsFedPiece f more g (Ok x) → HasDrafted s p b (before ++ more) new g
 puts_more s p b before d new f g more x way written fed = record { drafted = drafts s d new before more way.drafted written; taken = fed _ _ _ way.taken }
 
+-- a piece was written, and the checker did not take it
+pub stops_there : (s : Sight) (p : Parts) (b : Option ℕ) (before : List ℕ) (d new : Sight) (f : Feed) (more : List ℕ) →
+    HasDrafted s p b before d f → new ≡ with_bytes Draft more d → IsSomeDrafted s new
+stops_there s p b before d new f more way written = (before ++ more, drafts s d new before more way.drafted written)
+
 -- a fault of one problem's certificate
 one-fault : (v : Verdict) (f : CertFault) → IsRefusalOrMemory (one_verdict v) f → IsRefusalOrMemory v f
 one-fault (accepted s x) f h = h
@@ -51,11 +56,6 @@ pub refuses_there : (s : Sight) (p : Parts) (b : Option ℕ) (before : List ℕ)
     HasDrafted s p b before d f → new ≡ with_bytes Draft more d → IsFedPiece f more g (Err fault) → IsSomeDrafted s new × ((rest : List ℕ) → HasFault p b ((before ++ more) ++ rest) fault)
 refuses_there s p b before d new f g more fault way written fed =
     (stops_there s p b before d new f more way written, λ rest. one-fault (verdict (problem_of p) b ((before ++ more) ++ rest)) fault (fed _ _ _ way.taken rest))
-
--- a piece was written, and the checker did not take it
-pub stops_there : (s : Sight) (p : Parts) (b : Option ℕ) (before : List ℕ) (d new : Sight) (f : Feed) (more : List ℕ) →
-    HasDrafted s p b before d f → new ≡ with_bytes Draft more d → IsSomeDrafted s new
-stops_there s p b before d new f more way written = (before ++ more, drafts s d new before more way.drafted written)
 
 -- the first bytes of a piece were written
 pub stops_within : (s : Sight) (p : Parts) (b : Option ℕ) (before : List ℕ) (d new : Sight) (f : Feed) (more : List ℕ) →

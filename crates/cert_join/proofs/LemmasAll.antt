@@ -83,7 +83,7 @@ covers-left done (c ∷ later) = refl
 
 is-left : (done later : List Cover) (next : ℕ) → AllByRecursion HasLemmas later → IsLeft (begun_at (length done) next) (all_left done later)
 is-left done [] next h = refl
-is-left done (c ∷ later) next h = (refl, h.0, h.1, refl)
+is-left done (c ∷ later) next h = (refl, h.0, h.1, (let z : 0 + length c.lemmas ≡ length c.lemmas = omega arith in z))
 
 -- what is due then
 pub due_left : (numbers : List (List ℕ)) (done later : List Cover) (next : ℕ) → length numbers ≡ length (done ++ later) →
