@@ -14,7 +14,8 @@ const PIECE: usize = 4096;
 #[derive(Clone, Copy, Debug, PartialEq, Eq)]
 pub struct Joined {
     /// Whether lines of a certificate were dropped that no other has: those of a tree that was not taken, of a second
-    /// tree of a lemma, or one that says that a state is stuck. They were not checked.
+    /// tree of a lemma, or one that says that a state is stuck; or one was gone through that no accepted certificate has.
+    /// They were not checked.
     pub dropped: bool,
 }
 
