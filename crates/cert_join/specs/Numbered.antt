@@ -1,5 +1,5 @@
 -- The numbers that lemmas get, equal states one, in the order in which they come.
-use Rattle.std.specs.Prelude.{◌≡◌, ◌≢◌, ◌⊎◌, ◌<◌, ◌≤◌, ℕ, zero, suc, Bool, true, false, cond, ◌||◌, List, [], ◌∷◌, ◌++◌, Option, Some, None, Result, Ok, Err, map, take, length, get_or, slice_get, codes}
+use Rattle.std.specs.Prelude.{◌≡◌, ◌≢◌, ◌⊎◌, ◌<◌, ◌≤◌, ℕ, zero, suc, Bool, true, false, cond, List, [], ◌∷◌, ◌++◌, Option, Some, None, Result, Ok, Err, map, take, length, get_or, slice_get, codes}
 use Rattle.std.specs.List.{AllByRecursion}
 use Rattle.std.specs.Option.{option_map}
 use Rattle.std.specs.HashMap.{get}
@@ -30,7 +30,7 @@ use Rattle.cert_join.specs.Written.{texts_of, text_of, behind_header, written_fr
 
 -- of a lemma's own lines by the first word
 abbrev pub word_kind : List ℕ → Kind
-word_kind w = cond (bytes_eq w (codes "lemma")) LemmaKind (cond (bytes_eq w (codes "no")) No (cond (bytes_eq w [] || bytes_eq w (codes "tree")) TreeKind Other))
+word_kind w = cond (bytes_eq w (codes "lemma")) LemmaKind (cond (bytes_eq w (codes "no")) No (cond (bytes_eq w (codes "tree")) TreeKind Other))
 
 abbrev pub line_kind : CertLine → Kind
 line_kind (lemma i) = LemmaKind

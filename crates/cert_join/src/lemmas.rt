@@ -10,7 +10,7 @@ ghost use Rattle.cert_join.specs.Written.{texts_of};
 use crate::cursor::Cursor;
 use crate::joiner::Step;
 use crate::line::{append_number, append_renumbered, names_before, number_of};
-use crate::numbering::kind_of;
+use crate::numbering::is_behind;
 use std::alloc::AllocError;
 
 /// Goes through the lemmas of each certificate, and writes each lemma where it comes first.
@@ -157,15 +157,14 @@ impl Lemmas {
         if !cursor.is_ready() {
             return Ok(Step::Read(self.part));
         }
-        let line = cursor.text();
-        if kind_of(line).is_tree() {
+        if is_behind(cursor) {
             self.part += 1;
             self.begun = 0;
             self.is_written = false;
             cursor.pass();
             return Ok(Step::On);
         }
-        self.take(line, numbers, text, is_odd)?;
+        self.take(cursor.text(), numbers, text, is_odd)?;
         cursor.pass();
         Ok(Step::On)
     }

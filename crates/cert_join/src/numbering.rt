@@ -4,7 +4,7 @@ ghost use Rattle.cert_read.specs.CertLine.{CertLine};
 ghost use Rattle.cert_read.specs.LineText.{line_text};
 ghost use Rattle.cert_joined.specs.Covers.{Cover, AreTextsOf, IsTextOf};
 ghost use Rattle.cert_join.specs.Ahead.{AreBefore};
-ghost use Rattle.cert_join.specs.Spot.{Spot, IsBefore, IsMark, line_in, rewound, text_in};
+ghost use Rattle.cert_join.specs.Spot.{Spot, IsBefore, IsMark, line_in, rewound};
 ghost use Rattle.cert_join.specs.Written.{behind_header};
 ghost use Rattle.cert_join.specs.Numbered.{is_tree, line_kind, place_of, EndsPart, IsKnown, IsNumbered, IsNumbering, IsReadingPart, Notes, ReadsLemmas, ReadsPart, TakesLine, TakesNext, TakesState};
 
@@ -28,7 +28,7 @@ pub enum Kind {
     Lemma,
     /// The last one of its state.
     No,
-    /// The one before the main tree, or none.
+    /// The one before the main tree.
     Tree,
     Other,
 }
@@ -41,8 +41,19 @@ impl Kind {
     }
 }
 
-/// By its first word.
-pub fn kind_of(line: &[u8]) -> Kind
+/// Whether the cursor's line stands behind all lemmas, or there is none.
+pub fn is_behind(cursor: &Cursor) -> bool
+    ensures { (l : CertLine) → line_in cursor.now ≡ Some (line_text l) →
+        result ≡ is_tree (line_kind l) }
+{
+    match cursor.line() {
+        Some(line) => kind_of(line).is_tree(),
+        None => true,
+    }
+}
+
+// By its first word.
+fn kind_of(line: &[u8]) -> Kind
     ensures { (l : CertLine) → line.now ≡ line_text l → result ≡ line_kind l }
 {
     let word = first_word(line);
@@ -50,7 +61,7 @@ pub fn kind_of(line: &[u8]) -> Kind
         Kind::Lemma
     } else if word == b"no".as_slice() {
         Kind::No
-    } else if word.is_empty() || word == b"tree".as_slice() {
+    } else if word == b"tree".as_slice() {
         Kind::Tree
     } else {
         Kind::Other
@@ -354,15 +365,20 @@ impl Numbering {
         Ok(())
     }
 
-    // Takes the line that the cursor has, and says what it is.
+    // Takes the line that the cursor has, and says what it is. Where there is none the certificate's lemmas end as well.
     fn take_next(&mut self, cursor: &Cursor, counts: &[u32]) -> Result<Kind, Unjoined>
         requires { self.old.part < usize.MAX }
-        ensures { (l : CertLine) → text_in cursor.now ≡ line_text l →
+        ensures { (l : CertLine) → line_in cursor.now ≡ Some (line_text l) →
             TakesNext (line_kind l) (line_text l) self.old result self.new }
     {
-        let line = cursor.text();
+        let Some(line) = cursor.line() else {
+            return match self.end_part(counts) {
+                Ok(()) => Ok(Kind::Tree),
+                Err(_) => Err(Unjoined::Memory),
+            };
+        };
         let kind = kind_of(line);
-        if kind.is_tree() {
+        if kind == Kind::Tree {
             return match self.end_part(counts) {
                 Ok(()) => Ok(kind),
                 Err(_) => Err(Unjoined::Memory),
