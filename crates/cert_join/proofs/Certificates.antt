@@ -157,7 +157,7 @@ MovesOn (Err e) m s' s'' = Unit {0}
 -- a line was read
 pub reads_next : (cert : List ℕ) (before : List (List ℕ)) (c : Cover) (old new : Numbering) (s s' s'' : Spot) (m : Mark) (result : Result Kind Unjoined) →
     IsTextOf c cert → (r : IsReadingPart cert before c old s) → (old.mark ≡ Some m) ⊎ ((old.mark ≡ None) × IsMark s m) → s' ≡ record s { size = s'.size } → IsReady s' →
-    ((l : CertLine) → text_in s' ≡ line_text l → TakesNext (line_kind l) (line_text l) (marked old m) result new) → MovesOn result m s' s'' → ReadsNext cert before c old result new s''
+    ((l : CertLine) → line_in s' ≡ Some (line_text l) → TakesNext (line_kind l) (line_text l) (marked old m) result new) → MovesOn result m s' s'' → ReadsNext cert before c old result new s''
 reads_next cert before c old new s s' s'' m result t r k same ready take moves =
     let told = subst (IsBefore cert (texts_of r.ls)) (sym same) (before_same cert (texts_of r.ls) s s'.size r.ahead) in
     let f = ready_first cert (texts_of r.ls) s' (some_next old.is_in_state before c old.state.items old.own.items r.known r.ls r.at) told ready in
@@ -166,7 +166,7 @@ reads_next cert before c old new s s' s'' m result t r k same ready take moves =
     let at = subst (IsAt old.is_in_state before c old.state.items old.own.items r.known) x.here r.at in
     let behind = marked_behind cert c old.mark s m r.marked k in
     let b : IsBefore cert (texts_of (x.l ∷ x.rest)) s' = subst (λ (ls : List CertLine). IsBefore cert (texts_of ls) s') x.here told in
-    go result x.l x.rest at behind b has (take x.l x.text) moves
+    go result x.l x.rest at behind b has (take x.l has) moves
   where
     line : (found : Kind) (l : CertLine) (rest : List CertLine) → IsAt old.is_in_state before c old.state.items old.own.items r.known (l ∷ rest) →
         IsBefore cert (behind_header c) (rewound m) → IsBefore cert (texts_of (l ∷ rest)) s' → line_in s' ≡ Some (line_text l) → found ≢ TreeKind →

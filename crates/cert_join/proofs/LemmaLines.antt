@@ -18,7 +18,6 @@ use Rattle.cert_join.specs.LemmasDue.{begun_with, lines_ahead, new_left, tree_pa
 use Rattle.cert_join.specs.Spot.{Spot, IsBefore}
 use Rattle.cert_join.specs.Numbered.{is_tree, line_kind}
 use Rattle.cert_join.specs.declared.lemmas.Lemmas.{Lemmas}
-use Rattle.cert_join.specs.declared.numbering.Kind.{Kind}
 
 -- ---- texts of lines that follow others
 
@@ -211,12 +210,12 @@ inner-kind (no_list js) h = refl
 inner-kind (rule_line r) h = refl
 inner-kind _ h = absurd h
 
--- the kind of a line is this
-abbrev pub TellsKind : List ℕ → Kind → Type 0
-TellsKind l kind = (k : CertLine) → l ≡ line_text k → kind ≡ line_kind k
+-- whether the line stands behind all lemmas
+abbrev pub TellsBehind : List ℕ → Bool → Type 0
+TellsBehind l t = (k : CertLine) → l ≡ line_text k → t ≡ is_tree (line_kind k)
 
-not-tree : (k : CertLine) (l : List ℕ) (kind : Kind) → is_tree (line_kind k) ≡ false → TellsKind l kind → line_text k ≡ l → is_tree kind ≡ true → ⊥
-not-tree k l kind h tells e f = true≢false (sym f ∙ ap is_tree (tells k (sym e)) ∙ h)
+not-tree : (k : CertLine) (l : List ℕ) (t : Bool) → is_tree (line_kind k) ≡ false → TellsBehind l t → line_text k ≡ l → t ≡ true → ⊥
+not-tree k l t h tells e f = true≢false (sym f ∙ tells k (sym e) ∙ h)
 
 -- there is a line ahead
 pub some_lines : (begun : ℕ) (r : Rest) (t : Tree) → 0 < length (texts_of (lines_ahead begun r t))
@@ -232,36 +231,36 @@ next_begun numbers s s' old new n (Err e) l is h = tt
 next_begun numbers s s' old new n (Ok x) l is h = (n, slice_get_read numbers (length numbers) s.begun n refl l is, h)
 
 -- at the line `tree` nothing is left
-pub at_tree : (cert : List ℕ) (t : Tree) (numbers : List ℕ) (s s' : Lemmas) (middle : List CertLine) (lemmas : List Lemma) (spot : Spot) (old new l : List ℕ) (ls : List (List ℕ)) (kind : Kind) →
-    IsRest s.begun (record { middle = middle; lemmas = lemmas }) → texts_of (lines_ahead s.begun (record { middle = middle; lemmas = lemmas }) t) ≡ l ∷ ls → TellsKind l kind → is_tree kind ≡ true →
+pub at_tree : (cert : List ℕ) (t : Tree) (numbers : List ℕ) (s s' : Lemmas) (middle : List CertLine) (lemmas : List Lemma) (spot : Spot) (old new l : List ℕ) (ls : List (List ℕ)) (b : Bool) →
+    IsRest s.begun (record { middle = middle; lemmas = lemmas }) → texts_of (lines_ahead s.begun (record { middle = middle; lemmas = lemmas }) t) ≡ l ∷ ls → TellsBehind l b → b ≡ true →
     IsBefore cert ls spot → s' ≡ record { part = s.part + 1; begun = 0; is_written = false; next = s.next } → new ≡ old →
     IsBehind cert t numbers s s' (record { middle = middle; lemmas = lemmas }) spot old new
-at_tree cert t numbers s s' (m ∷ ms) xs spot old new l ls kind h e tells f before state same =
-    let first : line_text m ≡ l = cc in absurd (not-tree m l kind (inner-kind m h.inner.0) tells first f)
-at_tree cert t numbers s s' [] (x ∷ xs) spot old new l ls kind h e tells f before state same =
-    let first : line_text (lemma s.begun) ≡ l = cc in absurd (not-tree (lemma s.begun) l kind refl tells first f)
-at_tree cert t numbers s s' [] [] spot old new l ls kind h e tells f before state same =
+at_tree cert t numbers s s' (m ∷ ms) xs spot old new l ls b h e tells f before state same =
+    let first : line_text m ≡ l = cc in absurd (not-tree m l b (inner-kind m h.inner.0) tells first f)
+at_tree cert t numbers s s' [] (x ∷ xs) spot old new l ls b h e tells f before state same =
+    let first : line_text (lemma s.begun) ≡ l = cc in absurd (not-tree (lemma s.begun) l b refl tells first f)
+at_tree cert t numbers s s' [] [] spot old new l ls b h e tells f before state same =
     let rest : ls ≡ texts_of (tree_part t) = cc in
     let Q : List (List ℕ) → Type 0 = λ ks. IsBefore cert ks spot in
     goes_behind cert t numbers s s' spot old new state same (subst Q rest before)
 
 -- any other is one of a lemma
-pub at_line : (cert : List ℕ) (t : Tree) (numbers : List ℕ) (s s' : Lemmas) (middle : List CertLine) (lemmas : List Lemma) (spot : Spot) (old new l : List ℕ) (ls : List (List ℕ)) (kind : Kind) →
+pub at_line : (cert : List ℕ) (t : Tree) (numbers : List ℕ) (s s' : Lemmas) (middle : List CertLine) (lemmas : List Lemma) (spot : Spot) (old new l : List ℕ) (ls : List (List ℕ)) (b : Bool) →
     IsRest s.begun (record { middle = middle; lemmas = lemmas }) → s.begun + length lemmas ≡ length numbers →
-    texts_of (lines_ahead s.begun (record { middle = middle; lemmas = lemmas }) t) ≡ l ∷ ls → TellsKind l kind → is_tree kind ≡ false → IsBefore cert ls spot →
+    texts_of (lines_ahead s.begun (record { middle = middle; lemmas = lemmas }) t) ≡ l ∷ ls → TellsBehind l b → b ≡ false → IsBefore cert ls spot →
     ((i : ℕ) → l ≡ line_text (lemma i) → s.begun < length numbers → IsNextBegun numbers s s' old new) →
     ((k : CertLine) → l ≡ line_text k → IsInner k → IsSpelled k → IsTaken numbers k s s' old new) →
     GoesOn cert t numbers s s' (record { middle = middle; lemmas = lemmas }) spot old new
-at_line cert t numbers s s' (m ∷ ms) xs spot old new l ls kind h long e tells f before first inner =
+at_line cert t numbers s s' (m ∷ ms) xs spot old new l ls b h long e tells f before first inner =
     let is : l ≡ line_text m = cc in
     let rest : ls ≡ texts_of (lines_ahead s.begun (record { middle = ms; lemmas = xs }) t) = cc in
     let Q : List (List ℕ) → Type 0 = λ ks. IsBefore cert ks spot in
     goes_inner cert t numbers s s' m ms xs spot old new h (inner m is h.inner.0 h.spelled.0) (subst Q rest before)
-at_line cert t numbers s s' [] (x ∷ xs) spot old new l ls kind h long e tells f before first inner =
+at_line cert t numbers s s' [] (x ∷ xs) spot old new l ls b h long e tells f before first inner =
     let is : l ≡ line_text (lemma s.begun) = cc in
     let rest : ls ≡ texts_of ((lines_behind x ++ lemmas_lines (suc s.begun) xs) ++ (tree_word ∷ tree_part t)) = cc in
     let Q : List (List ℕ) → Type 0 = λ ks. IsBefore cert ks spot in
-    let b = first s.begun is (omega (arith, long)) in
-    goes_first cert t numbers s s' x xs spot old new b.0 h b.1 b.2 (subst Q rest before)
-at_line cert t numbers s s' [] [] spot old new l ls kind h long e tells f before first inner =
-    let is : l ≡ line_text tree_word = cc in absurd (true≢false (sym (ap is_tree (tells tree_word is)) ∙ f))
+    let n = first s.begun is (omega (arith, long)) in
+    goes_first cert t numbers s s' x xs spot old new n.0 h n.1 n.2 (subst Q rest before)
+at_line cert t numbers s s' [] [] spot old new l ls b h long e tells f before first inner =
+    let is : l ≡ line_text tree_word = cc in absurd (true≢false (sym (tells tree_word is) ∙ f))
