@@ -379,7 +379,13 @@ impl Joiner {
             (lists_of self.new.numbers.items) self.new.stage self.new.cursors.items }
     {
         let is_odd = &mut self.dropped;
-        step_in(&mut self.stage, &mut self.cursors, &self.numbers, text, is_odd)
+        step_in(
+            &mut self.stage,
+            &mut self.cursors,
+            &self.numbers,
+            text,
+            is_odd,
+        )
     }
 
     /// Appends more of the text, or says what has to be read first.

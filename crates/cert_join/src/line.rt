@@ -182,11 +182,7 @@ fn append_naming(text: &mut Vec<u8>, line: &[u8], numbers: &[u32]) -> Result<(),
 }
 
 /// Appends a line without its break; a lemma that a line of a tree names has the number that `numbers` gives it, or 0.
-pub fn append_renumbered(
-    text: &mut Vec<u8>,
-    line: &[u8],
-    numbers: &[u32],
-) -> Result<(), AllocError>
+pub fn append_renumbered(text: &mut Vec<u8>, line: &[u8], numbers: &[u32]) -> Result<(), AllocError>
     ensures { (l : CertLine) → line.now ≡ line_text l → IsSpelled l →
         OnOk result (IsRenumbered numbers.now l text.old.items text.new.items) }
 {
