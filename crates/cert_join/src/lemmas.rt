@@ -68,12 +68,16 @@ impl Lemmas {
         ensures { OnOk result (IsBegun number self.old self.new text.old.items text.new.items) }
     {
         self.begun += 1;
-        self.is_written = number as u64 == self.next;
-        if !self.is_written {
+        if number as u64 != self.next {
+            self.is_written = false;
             return Ok(());
         }
+        self.is_written = true;
         self.next += 1;
-        append_first(text, number)
+        match append_first(text, number) {
+            Ok(()) => Ok(()),
+            Err(error) => Err(error),
+        }
     }
 
     // Begins the next lemma of a certificate, which says that it has the number of these digits.

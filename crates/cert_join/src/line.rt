@@ -161,13 +161,24 @@ pub fn names_before(line: &[u8], count: usize) -> bool {
     }
 }
 
+// The number that these give this lemma, or 0.
+fn number_at(numbers: &[u32], named: u32) -> u32
+    ensures { result ≡ numbered numbers.now named }
+{
+    let place = named as usize;
+    if place >= numbers.len() {
+        return 0;
+    }
+    numbers[place]
+}
+
 // The number that these give a lemma, or 0.
 fn number_by(numbers: &[u32], named: Option<u32>) -> u32
     ensures { (i : ℕ) → named ≡ Some i → result ≡ numbered numbers.now i }
 {
     match named {
-        Some(named) if (named as usize) < numbers.len() => numbers[named as usize],
-        _ => 0,
+        Some(named) => number_at(numbers, named),
+        None => 0,
     }
 }
 
@@ -178,7 +189,10 @@ fn append_naming(text: &mut Vec<u8>, line: &[u8], numbers: &[u32]) -> Result<(),
         OnOk result (IsRenumbered numbers.now (rule_line r) text.old.items text.new.items) }
 {
     let (front, named) = last_number(line);
-    append_both(text, front, number_by(numbers, named))
+    match append_both(text, front, number_by(numbers, named)) {
+        Ok(()) => Ok(()),
+        Err(error) => Err(error),
+    }
 }
 
 /// Appends a line without its break; a lemma that a line of a tree names has the number that `numbers` gives it, or 0.
@@ -187,8 +201,10 @@ pub fn append_renumbered(text: &mut Vec<u8>, line: &[u8], numbers: &[u32]) -> Re
         OnOk result (IsRenumbered numbers.now l text.old.items text.new.items) }
 {
     if names_lemma(line) {
-        append_naming(text, line, numbers)
-    } else {
-        text.extend_from_slice(line)
+        return append_naming(text, line, numbers);
+    }
+    match text.extend_from_slice(line) {
+        Ok(()) => Ok(()),
+        Err(error) => Err(error),
     }
 }
