@@ -1,11 +1,9 @@
 -- The first word of a line of a tree, and the number of its lemma.
-use Rattle.std.proofs.Common.{◌≡◌, ◌<◌, ◌≤◌, ◌^◌, ℕ, ◌⊎◌, inl, inr, List, [], ◌∷◌, ◌++◌, true, false, not, ◌||◌, nat_eq, IsTrue, Option, Some, None, codes, cond, refl, ap, ap₂, sym, ◌∙◌, length, get_or, subst, ⊎_elim, append_assoc, arith}
-use Rattle.std.specs.Prelude.{Bool, decimal, is_some, slice_get, IfSome, Ok}
+use Rattle.std.proofs.Common.{◌≡◌, ◌<◌, ◌≤◌, ◌^◌, ℕ, suc, zero, ◌⊎◌, inl, inr, List, [], ◌∷◌, ◌++◌, true, false, not, ◌||◌, nat_eq, IsTrue, Option, Some, None, codes, cond, refl, ap, ap₂, sym, ◌∙◌, length, subst, append_assoc, arith}
+use Rattle.std.specs.Prelude.{Bool, decimal, is_some}
 use Rattle.std.specs.Str.{bytes_eq, all_ascii_digits}
 use Rattle.std.specs.Str.Parse.{digits_value}
-use Rattle.std.proofs.lemmas.Bool.{cases_lt}
 use Rattle.std.proofs.lemmas.Bool.Decides.{eqb_tells}
-use Rattle.std.proofs.lemmas.Option.{slice_get_within, get_or_from_slice_get, slice_get-get_or}
 use Rattle.std.proofs.lemmas.Fmt.{digits_decimal}
 use Rattle.std.proofs.lemmas.Str.Parse.{IsNumeralModel, tells_all_ascii_digits, numerals_by_value}
 use Rattle.cover_line.specs.Words.{RuleWord, empty_word, pull_word, unit_word, ban_word, void_word, push_word, void_no_word, false_word, by_word, cut_word, flip_word, case_word, open_word, stuck_word, combine_word, void_combine_word, narrowing_word, voiding_word, word_of, word_text}
@@ -305,6 +303,13 @@ pub decimal_lacks : (n : ℕ) → n < 2 ^ 32 → IsTrue (lacks 32 (decimal n))
 decimal_lacks n h = digits-lack (decimal n) (digits_decimal model n (omega (arith, h)))
 
 -- ---- the line with the number that is given
+
+-- lemmas that are not there have number 0
+pub number_past : (numbers : List ℕ) (i : ℕ) → length numbers ≤ i → 0 ≡ numbered numbers i
+number_past [] zero h = refl
+number_past [] (suc i) h = refl
+number_past (n ∷ numbers) zero h = absurd (omega (arith, h))
+number_past (n ∷ numbers) (suc i) h = number_past numbers i (omega (arith, h))
 
 pub with_number : (r : Line) (i : ℕ) (numbers old new front : List ℕ) (n : ℕ) → lemma_named r ≡ Some i → front ≡ lemma_front r → n ≡ numbered numbers i
     → new ≡ old ++ (front ++ decimal n) → IsRenumbered numbers (rule_line r) old new
