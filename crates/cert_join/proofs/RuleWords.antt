@@ -41,25 +41,24 @@ pub record IsWordTold (w : RuleWord) : Type 0 where
   pub names : is_naming_text (word_text w) ≡ names_by_word w
   -- no word of a lemma's or a certificate's own lines
   pub other : word_kind (word_text w) ≡ Other
-  pub no_tree : bytes_eq (word_text w) (codes "tree") ≡ false
 
 pub word_told : (w : RuleWord) → IsWordTold w
-word_told empty_word = record { one = refl; which = refl; names = refl; other = refl; no_tree = refl }
-word_told pull_word = record { one = refl; which = refl; names = refl; other = refl; no_tree = refl }
-word_told unit_word = record { one = refl; which = refl; names = refl; other = refl; no_tree = refl }
-word_told ban_word = record { one = refl; which = refl; names = refl; other = refl; no_tree = refl }
-word_told void_word = record { one = refl; which = refl; names = refl; other = refl; no_tree = refl }
-word_told push_word = record { one = refl; which = refl; names = refl; other = refl; no_tree = refl }
-word_told void_no_word = record { one = refl; which = refl; names = refl; other = refl; no_tree = refl }
-word_told false_word = record { one = refl; which = refl; names = refl; other = refl; no_tree = refl }
-word_told by_word = record { one = refl; which = refl; names = refl; other = refl; no_tree = refl }
-word_told cut_word = record { one = refl; which = refl; names = refl; other = refl; no_tree = refl }
-word_told flip_word = record { one = refl; which = refl; names = refl; other = refl; no_tree = refl }
-word_told case_word = record { one = refl; which = refl; names = refl; other = refl; no_tree = refl }
-word_told open_word = record { one = refl; which = refl; names = refl; other = refl; no_tree = refl }
-word_told stuck_word = record { one = refl; which = refl; names = refl; other = refl; no_tree = refl }
-word_told combine_word = record { one = refl; which = refl; names = refl; other = refl; no_tree = refl }
-word_told void_combine_word = record { one = refl; which = refl; names = refl; other = refl; no_tree = refl }
+word_told empty_word = record { one = refl; which = refl; names = refl; other = refl }
+word_told pull_word = record { one = refl; which = refl; names = refl; other = refl }
+word_told unit_word = record { one = refl; which = refl; names = refl; other = refl }
+word_told ban_word = record { one = refl; which = refl; names = refl; other = refl }
+word_told void_word = record { one = refl; which = refl; names = refl; other = refl }
+word_told push_word = record { one = refl; which = refl; names = refl; other = refl }
+word_told void_no_word = record { one = refl; which = refl; names = refl; other = refl }
+word_told false_word = record { one = refl; which = refl; names = refl; other = refl }
+word_told by_word = record { one = refl; which = refl; names = refl; other = refl }
+word_told cut_word = record { one = refl; which = refl; names = refl; other = refl }
+word_told flip_word = record { one = refl; which = refl; names = refl; other = refl }
+word_told case_word = record { one = refl; which = refl; names = refl; other = refl }
+word_told open_word = record { one = refl; which = refl; names = refl; other = refl }
+word_told stuck_word = record { one = refl; which = refl; names = refl; other = refl }
+word_told combine_word = record { one = refl; which = refl; names = refl; other = refl }
+word_told void_combine_word = record { one = refl; which = refl; names = refl; other = refl }
 
 -- no two words have one spelling
 pub same_word : (v w : RuleWord) → word_text v ≡ word_text w → v ≡ w

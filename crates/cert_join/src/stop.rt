@@ -1,9 +1,5 @@
 // Why certificates are not joined.
-ghost use Rattle.std.specs.Prelude.{◌≡◌};
-ghost use Rattle.cert_join.specs.declared.stop.Unjoined.TheVariants as unjoined;
-
 use cert_check::CertFault;
-use std::alloc::{AllocError, AllocFailed};
 
 /// Why no whole certificate was written.
 #[derive(Clone, Copy, Debug, PartialEq, Eq)]
@@ -27,20 +23,4 @@ pub enum Unjoined {
     Memory,
     Unlike,
     Crowded,
-}
-
-impl From<AllocError> for Unjoined {
-    ghost from_gives = { λ _ e. e ≡ unjoined.Memory };
-
-    fn from(_: AllocError) -> Self {
-        Unjoined::Memory
-    }
-}
-
-impl<T: Drop> From<AllocFailed<T>> for Unjoined {
-    ghost from_gives = { λ _ e. e ≡ unjoined.Memory };
-
-    fn from(_: AllocFailed<T>) -> Self {
-        Unjoined::Memory
-    }
 }
