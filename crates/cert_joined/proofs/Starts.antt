@@ -1,5 +1,5 @@
 -- The first lines of an accepted certificate of a cover.
-use Rattle.std.proofs.Common.{◌≡◌, ℕ, suc, List, [], ◌∷◌, map, Bool, true, false, Option, Some, None, IsTrue, nat_eq, nat_le, length, refl, ap, sym, subst, ◌∙◌}
+use Rattle.std.proofs.Common.{◌≡◌, ℕ, suc, List, [], ◌∷◌, map, Bool, true, false, Option, Some, None, IsTrue, nat_eq, nat_le, drop, length, refl, ap, sym, subst, ◌∙◌}
 use Rattle.std.proofs.lemmas.Bool.{eqb-true, le-leb}
 use Rattle.poly_graph.specs.Problem.{Problem}
 use Rattle.cover_model.specs.State.{Loosenings}
@@ -47,17 +47,18 @@ module _ (p : Problem) (b : Option ℕ) where
 
   header-so : (bytes : List ℕ) (s : Loosenings) (v : Value) (c : Cover) → IsAccepted p b bytes s v → IsTextOf c bytes → IsTrue (is_version c.version) × (c.bound ≡ b)
   header-so bytes s v c h t =
+      let behind : ℕ → List (List ℕ) = λ k. map line_text (drop k (cover_lines c)) in
       let all = ended-so (nat_le (length bytes) most_bytes) bytes s v (le-leb (length bytes) most_bytes t.few) h in
       let end = where-ended (course p b 0 version_due (lines_of bytes)) s v all in
       let r = subst (λ (ls : List (List ℕ)). course p b 0 version_due ls ≡ reached end.0 end.1) t.lines end.2 in
-      let l1 = one-line (version c.version) _ 0 end.1 version_due end.0 t.spelled.0 r in
+      let l1 = one-line (version c.version) (behind 1) 0 end.1 version_due end.0 t.spelled.0 r in
       let g1 = given-on (is_version c.version) (margin_due c.version) l1.0 BadHeader l1.1 in
-      let l2 = one-line (margin c.margin_bits) _ 1 end.1 l1.0 end.0 t.spelled.1.0 l1.2 in
+      let l2 = one-line (margin c.margin_bits) (behind 2) 1 end.1 l1.0 end.0 t.spelled.1.0 l1.2 in
       let e2 = on-same (delta_due c.version c.margin_bits) l2.0 (ap (λ (x : Due). next p b x (margin c.margin_bits)) g1.1 ∙ l2.1) in
-      let l3 = one-line (delta c.delta_bits) _ 2 end.1 l2.0 end.0 t.spelled.1.1.0 l2.2 in
+      let l3 = one-line (delta c.delta_bits) (behind 3) 2 end.1 l2.0 end.0 t.spelled.1.1.0 l2.2 in
       let g3 = given-on (loosenings_fit c.margin_bits c.delta_bits) (bound_due (record { margin_bits = c.margin_bits; delta_bits = c.delta_bits; version = c.version })) l3.0 BadHeader
       (ap (λ (x : Due). next p b x (delta c.delta_bits)) e2 ∙ l3.1) in
-      let l4 = one-line (bound c.bound) _ 3 end.1 l3.0 end.0 t.spelled.1.1.1.0 l3.2 in
+      let l4 = one-line (bound c.bound) (behind 4) 3 end.1 l3.0 end.0 t.spelled.1.1.1.0 l3.2 in
       let g4 = given-on (same_bound c.bound b) (kind_due (record { margin_bits = c.margin_bits; delta_bits = c.delta_bits; version = c.version })) l4.0 WrongBound
       (ap (λ (x : Due). next p b x (bound c.bound)) g3.1 ∙ l4.1) in
       (g1.0, same-bound c.bound b g4.0)
