@@ -1,11 +1,11 @@
 -- Certificates that are accepted and agree have covers that may be joined.
-use Rattle.std.proofs.Common.{◌≡◌, ◌<◌, ◌≤◌, ◌+◌, ◌-◌, ◌^◌, ℕ, suc, List, [], ◌∷◌, ◌++◌, append_assoc, map, Bool, true, false, cond, Option, Some, None, IsTrue, nat_eq, length, length-append, take, refl, ap, sym, subst, ◌∙◌, arith}
+use Rattle.std.proofs.Common.{◌≡◌, ◌<◌, ◌≤◌, ◌+◌, ◌-◌, ◌^◌, ℕ, suc, List, [], ◌∷◌, ◌++◌, append_assoc, map, Bool, true, false, cond, Option, Some, None, IsTrue, nat_eq, length, length-append, drop, take, refl, ap, sym, subst, ◌∙◌, arith}
 use Rattle.std.specs.Prelude.{decimal}
 use Rattle.std.specs.List.{AllByRecursion}
 use Rattle.std.proofs.lemmas.Bool.{cases_Bool, eqb-true}
 use Rattle.std.proofs.lemmas.Fmt.{length-decimal-le}
 use Rattle.poly_graph.specs.Problem.{Problem}
-use Rattle.cert_read.specs.CertLine.{CertLine, Parsed, delta, line, margin, parsed, version}
+use Rattle.cert_read.specs.CertLine.{CertLine, Parsed, bound, delta, line, margin, parsed, version}
 use Rattle.cert_read.specs.LineText.{IsSpelled, line_text}
 use Rattle.cert_read.specs.Lines.{lines_of, onto_first, split_at, without_last_empty}
 use Rattle.cert_read.proofs.Parts.{split_some}
@@ -91,23 +91,24 @@ bits-of-text c bytes t =
     let v = line_text (version c.version) in
     let m = line_text (margin c.margin_bits) in
     let d = line_text (delta c.delta_bits) in
-    let k1 = cut v m _ bytes t.lines in
-    let k2 = cut m d _ k1.rest k1.behind in
-    let k3 = cut d _ _ k2.rest k2.behind in
+    let behind : ℕ → List (List ℕ) = λ k. map line_text (drop k (cover_lines c)) in
+    let k1 = cut v m (behind 2) bytes t.lines in
+    let k2 = cut m d (behind 3) k1.rest k1.behind in
+    let k3 = cut d (line_text (bound c.bound)) (behind 4) k2.rest k2.behind in
     let a = decimal-short c.version t.spelled.0.0 in
     let b = decimal-short c.margin_bits t.spelled.1.0.0 in
     let e = decimal-short c.delta_bits t.spelled.1.1.0.0 in
     let room = room-for (length v) (length m) (length d) (omega (arith, a)) (omega (arith, b)) (omega (arith, e)) in
     let left = room.0 in
-    let whole : take header_room bytes ≡ v ++ (10 ∷ (m ++ (10 ∷ (d ++ (10 ∷ take left k3.rest))))) =
+    let tail = take left k3.rest in
+    let whole : take header_room bytes ≡ v ++ (10 ∷ (m ++ (10 ∷ (d ++ (10 ∷ tail))))) =
     ap (take 64) (k1.whole ∙ ap (λ (x : List ℕ). v ++ (10 ∷ x)) (k2.whole ∙ ap (λ (x : List ℕ). m ++ (10 ∷ x)) k3.whole))
     ∙ take-line v (m ++ (10 ∷ (d ++ (10 ∷ k3.rest)))) 64 (length m + suc (length d + suc left)) room.1
     ∙ ap (λ (x : List ℕ). v ++ (10 ∷ x)) (take-line m (d ++ (10 ∷ k3.rest)) (length m + suc (length d + suc left)) (length d + suc left) refl
     ∙ ap (λ (x : List ℕ). m ++ (10 ∷ x)) (take-line d k3.rest (length d + suc left) left refl)) in
-    let tail = take left k3.rest in
     let lines : lines_of (take header_room bytes) ≡ v ∷ m ∷ d ∷ lines_of tail =
-    ap lines_of whole ∙ first-line v _ (line_lacks_break (version c.version) t.spelled.0.0)
-    ∙ ap (λ (xs : List (List ℕ)). v ∷ xs) (first-line m _ (line_lacks_break (margin c.margin_bits) t.spelled.1.0.0)
+    ap lines_of whole ∙ first-line v (m ++ (10 ∷ (d ++ (10 ∷ tail)))) (line_lacks_break (version c.version) t.spelled.0.0)
+    ∙ ap (λ (xs : List (List ℕ)). v ∷ xs) (first-line m (d ++ (10 ∷ tail)) (line_lacks_break (margin c.margin_bits) t.spelled.1.0.0)
     ∙ ap (λ (xs : List (List ℕ)). m ∷ xs) (first-line d tail (line_lacks_break (delta c.delta_bits) t.spelled.1.1.0.0))) in
     ap (λ (xs : List (List ℕ)). bits_among (map parsed xs)) lines
     ∙ ap (λ (x : Parsed). bits_among (x ∷ parsed m ∷ parsed d ∷ map parsed (lines_of tail))) (spelled_line (version c.version) t.spelled.0)
@@ -119,9 +120,15 @@ bits-of-text c bytes t =
 same-bits : (m n d e : ℕ) → Some (m, d) ≡ Some (n, e) → (m ≡ n) × (d ≡ e)
 same-bits m n d e h = (cc, cc)
 
-module _ (p : Problem) (b : Option ℕ) (first : Cover) (bytes : List ℕ) (t : IsTextOf first bytes) where
+abbrev HasBits : Cover → Cover → Type 0
+HasBits first c = (c.margin_bits ≡ first.margin_bits) × (c.delta_bits ≡ first.delta_bits)
+
+abbrev HasHeader : Option ℕ → Cover → Type 0
+HasHeader b c = IsTrue (is_version c.version) × (c.bound ≡ b)
+
+module _ (first : Cover) (bytes : List ℕ) (t : IsTextOf first bytes) where
   alike-others : (covers : List Cover) (parts : List (List ℕ)) → AreTextsOf covers parts → AllByRecursion (λ (x : List ℕ). bits_in x ≡ bits_in bytes) parts →
-      AllByRecursion (λ (c : Cover). (c.margin_bits ≡ first.margin_bits) × (c.delta_bits ≡ first.delta_bits)) covers
+      AllByRecursion (HasBits first) covers
   alike-others [] [] ts h = tt
   alike-others (c ∷ covers) (x ∷ parts) ts h =
       (same-bits c.margin_bits first.margin_bits c.delta_bits first.delta_bits (sym (bits-of-text c x ts.0) ∙ h.0 ∙ bits-of-text first bytes t), alike-others covers parts ts.1 h.1)
@@ -129,7 +136,7 @@ module _ (p : Problem) (b : Option ℕ) (first : Cover) (bytes : List ℕ) (t : 
   alike-others (c ∷ covers) [] ts h = absurd ts
 
 headers : (p : Problem) (b : Option ℕ) (covers : List Cover) (parts : List (List ℕ)) → AreTextsOf covers parts → AreAllAccepted p b parts →
-    AllByRecursion (λ (c : Cover). IsTrue (is_version c.version) × (c.bound ≡ b)) covers
+    AllByRecursion (HasHeader b) covers
 headers p b [] [] ts h = tt
 headers p b (c ∷ covers) (x ∷ parts) ts h = (accepted_has_header p b x h.0.0 h.0.1 c h.0.2 ts.0, headers p b covers parts ts.1 h.1)
 headers p b [] (x ∷ parts) ts h = absurd ts
@@ -142,21 +149,18 @@ all-map P Q f (c ∷ covers) h = (f c h.0, all-map P Q f covers h.1)
 alike-all : (p : Problem) (b : Option ℕ) (first : Cover) (others : List Cover) (parts : List (List ℕ)) → AreTextsOf (first ∷ others) parts → AreAllAccepted p b parts → AreAgreed parts → AreAlike first (first ∷ others)
 alike-all p b first others [] ts all agreed = absurd ts
 alike-all p b first others (x ∷ parts) ts all agreed =
-    let bits = alike-others p b first x ts.0 others parts ts.1 agreed in
+    let bits = alike-others first x ts.0 others parts ts.1 agreed in
     let heads = headers p b (first ∷ others) (x ∷ parts) ts all in
     record {
-      margin = (refl, all-map _ _ (λ c h. h.0) others bits);
-      delta = (refl, all-map _ _ (λ c h. h.1) others bits);
-      bound = (refl, all-map _ _ (λ c h. h.1 ∙ sym heads.0.1) others heads.1);
+      margin = (refl, all-map (HasBits first) (λ (c : Cover). c.margin_bits ≡ first.margin_bits) (λ c h. h.0) others bits);
+      delta = (refl, all-map (HasBits first) (λ (c : Cover). c.delta_bits ≡ first.delta_bits) (λ c h. h.1) others bits);
+      bound = (refl, all-map (HasHeader b) (λ (c : Cover). c.bound ≡ first.bound) (λ c h. h.1 ∙ sym heads.0.1) others heads.1);
     }
-
-firsts : (first : Cover) (others : List Cover) (c : Cover) (rest : List Cover) → first ∷ others ≡ c ∷ rest → first ≡ c
-firsts first others c rest e = cc
 
 pub are_joinable : (p : Problem) (b : Option ℕ) (covers : List Cover) (parts : List (List ℕ)) → AreTextsOf covers parts → AreAllAccepted p b parts → AreAgreed parts → AreJoinable covers
 are_joinable p b covers parts ts all agreed = record {
   alike = λ first others e.
       let a = alike-all p b first others parts (subst (λ (cs : List Cover). AreTextsOf cs parts) e ts) all agreed in
       subst (λ (cs : List Cover). AreAlike first cs) (sym e) a;
-  versions = all-map _ _ (λ c h. h.0) covers (headers p b covers parts ts all);
+  versions = all-map (HasHeader b) (λ (c : Cover). IsTrue (is_version c.version)) (λ c h. h.0) covers (headers p b covers parts ts all);
 }
