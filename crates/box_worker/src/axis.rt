@@ -11,39 +11,42 @@ use dyadic::two_to_minus;
 use floats::approximate;
 use std::alloc::{AllocError, Global};
 
-// Which axis is named. An axis is free where no equation defines it and its side is not far below the widest one.
+// Which axis is named: the one of most worth. A defined axis is the last one of an equation that gives it by the others; a
+// thin one has a far smaller side than the widest.
 #[derive(Clone, Copy)]
 enum Policy {
-    // By smear: the one of the greatest share in what the atoms may change by.
+    // By smear: its share in what the atoms may change by.
     Smear,
-    // The same among free axes, else among all.
+    // The same, with axes that are not thin before others.
+    EvenSmear,
+    // The same, with axes that are neither thin nor defined before others.
     FreeSmear,
-    // The widest free one.
+    // By its side, with axes that are not defined before others.
     FreeSide,
 }
 
 const POLICY: Policy = Policy::Smear;
 
-/// A free axis has more than this share of the widest side.
-const NOT_THIN: f64 = 0.001;
+/// A thin axis has less than this share of the widest side.
+const THIN: f64 = 0.125;
 
-/// The share of an axis that is not free counts so much.
-const NOT_FREE: f64 = 0.001;
+/// Where some axes come before others, the worth of these counts so much.
+const OF_OTHERS: f64 = 0.001;
+
+// The worth of an axis that comes before others or is one of these.
+fn rated(is_before: bool, worth: f64) -> f64 {
+    if is_before { worth } else { OF_OTHERS * worth }
+}
 
 impl Policy {
-    // What is expected of a cut of the axis, where this is the widest side; 0 where nothing is.
+    // The worth of the axis, where this is the widest side; 0 where nothing is expected of a cut.
     fn worth(self, axis: Prospect, widest: f64) -> f64 {
-        let is_free = !axis.is_defined && axis.side > NOT_THIN * widest;
+        let is_thin = axis.side < THIN * widest;
         match self {
             Policy::Smear => axis.share,
-            Policy::FreeSmear => {
-                if is_free {
-                    axis.share
-                } else {
-                    NOT_FREE * axis.share
-                }
-            }
-            Policy::FreeSide => { if is_free { axis.side } else { 0.0 } }
+            Policy::EvenSmear => rated(!is_thin, axis.share),
+            Policy::FreeSmear => rated(!is_thin && !axis.is_defined, axis.share),
+            Policy::FreeSide => rated(!axis.is_defined, axis.side),
         }
     }
 }
@@ -59,7 +62,7 @@ fn widest_side(prospects: &[Prospect]) -> f64 {
     widest
 }
 
-// The first axis of most worth, of those with a side above the least, if anything is expected of one.
+// The first axis of most worth, of those with a side above the least, if one has any.
 fn best_axis(prospects: &[Prospect], least: f64) -> Option<u32> {
     let widest = widest_side(prospects);
     let mut best = None;
