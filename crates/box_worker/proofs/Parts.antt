@@ -67,27 +67,31 @@ widest_refused P Q due a =
     (both_pass (shown && ready && may_be_cut w s axis space) (is_middle_at axis (mid l h) space)
     (both_pass (shown && ready) (may_be_cut w s axis space) (both_pass shown ready due.shown due.settled) (wide_may w s axis space l h cuts e wide)) cuts.middle)))))
 
--- nor has the patch changed
-pub widest_same : (P Q : PatchModel) → WidestAttempt P Q false → Q ≡ P
-widest_same P Q a = go (axis_of (widest (now_in P).space)) a
-  where
-    go : (o : Option ℕ) → CutAttemptAt o P Q false → Q ≡ P
-    go None h = h.1
-    go (Some axis) h = h.1
-
-pub cut_done : (P : PatchModel) (axis : ℕ) → cut_refusal P axis ≡ None → Continues P (cut_by P axis) × IsTrue (is_left (cut_by P axis).kept.end)
-cut_done P axis e = by-line (cut_line axis (now_in P).space) refl (neither (if_ended P.kept) (cut_test P (cut_line axis (now_in P).space)) e).1
+cut-done : (P : PatchModel) (axis : ℕ) → cut_refusal P axis ≡ None → Continues P (cut_by P axis) × IsTrue (is_left (cut_by P axis).kept.end)
+cut-done P axis e = by-line (cut_line axis (now_in P).space) refl (neither (if_ended P.kept) (cut_test P (cut_line axis (now_in P).space)) e).1
   where
     by-line : (o : Option Line) → cut_line axis (now_in P).space ≡ o → cut_test P o ≡ None → Continues P (ended_if P o) × IsTrue (is_left (ended_if P o).kept.end)
     by-line None q k = cc
     by-line (Some l) q k = (record { problem = refl; margins = refl; first = refl; quoted = refl }, subst (λ (x : Line). IsTrue (leaves_some x)) (sym (cut_is axis (now_in P).space l q).is) refl)
 
-pub widest_done : (P Q : PatchModel) → WidestAttempt P Q true → Continues P Q × IsTrue (is_left Q.kept.end)
-widest_done P Q a = go (axis_of (widest (now_in P).space)) a
-  where
-    go : (o : Option ℕ) → CutAttemptAt o P Q true → Continues P Q × IsTrue (is_left Q.kept.end)
-    go None h = absurd (true≢false h.0)
-    go (Some axis) h = subst (λ (X : PatchModel). Continues P X × IsTrue (is_left X.kept.end)) (sym h.1) (cut_done P axis h.0)
+unchanged : (P : PatchModel) → Continues P P
+unchanged P = record { problem = refl; margins = refl; first = refl; quoted = refl }
+
+-- what an attempt to cut an axis comes to, if there is one
+pub cut_continues : (o : Option ℕ) (P Q : PatchModel) (b : Bool) → CutAttemptAt o P Q b → Continues P Q
+cut_continues None P Q b h = subst (Continues P) (sym h.1) (unchanged P)
+cut_continues (Some axis) P Q true h = subst (Continues P) (sym h.1) (cut-done P axis h.0).0
+cut_continues (Some axis) P Q false h = subst (Continues P) (sym h.1) (unchanged P)
+
+pub cut_parted : (o : Option ℕ) (P Q : PatchModel) (b : Bool) → CutAttemptAt o P Q b → b ≡ true → IsTrue (is_left Q.kept.end)
+cut_parted None P Q b h e = absurd (true≢false (sym e ∙ h.0))
+cut_parted (Some axis) P Q true h e = subst (λ (X : PatchModel). IsTrue (is_left X.kept.end)) (sym h.1) (cut-done P axis h.0).1
+cut_parted (Some axis) P Q false h e = absurd (true≢false (sym e))
+
+pub cut_same : (o : Option ℕ) (P Q : PatchModel) (b : Bool) → CutAttemptAt o P Q b → b ≡ false → Q ≡ P
+cut_same None P Q b h e = h.1
+cut_same (Some axis) P Q true h e = absurd (true≢false e)
+cut_same (Some axis) P Q false h e = h.1
 
 -- ---- stuck states
 

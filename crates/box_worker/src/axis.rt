@@ -1,86 +1,87 @@
-// At which axis a box is cut. Where the version allows any axis, a heuristic names it, which promises nothing; where it
-// names none that may be cut, and in the other versions, the widest one is.
+// At which Real axis a box is cut. Where the version leaves that to the search, a heuristic names the axis, which promises
+// nothing; where it names none that may be cut, and in the other versions, the widest one is.
 ghost use Rattle.std.specs.Prelude.{◌≡◌, IfOk, IsTrue, true, false};
 ghost use Rattle.box_worker.specs.Attempts.{Continues};
 ghost use Rattle.box_worker.specs.Ended.{is_left};
 
 use crate::attempt;
-use crate::combining::is_asking_at;
+use crate::prospects::{Prospect, prospects};
 use cover_rule::Patch;
-use floats::{Slopes, Span, add, at, span_of_domain};
-use ival::{Domain, Space};
+use dyadic::two_to_minus;
+use floats::approximate;
 use std::alloc::{AllocError, Global};
 
-// By so much the term may change as the axis goes from one end to the other; 0 where that is no moderate number.
-fn change(slope: Span, domain: Domain) -> f64 {
-    let span = span_of_domain(domain);
-    let change = slope.size() * (span.high - span.low);
-    if change > 0.0 && change < 1e300 {
-        change
-    } else {
-        0.0
-    }
+// Which axis is named: the one of most worth. A defined axis is the last one of an equation that gives it by the others; a
+// thin one has a far smaller side than the widest.
+#[derive(Clone, Copy)]
+enum Policy {
+    // By smear: its share in what the atoms may change by.
+    Smear,
+    // The same, with axes that are not thin before others.
+    EvenSmear,
+    // The same, with axes that are neither thin nor defined before others.
+    FreeSmear,
+    // By its side, with axes that are not defined before others.
+    FreeSide,
 }
 
-// By so much the term may change along this axis; 0 where there is no such one.
-fn change_at(slopes: &[Span], space: &Space, axis: usize) -> f64 {
-    if axis < slopes.len() && axis < space.len() {
-        change(slopes[axis], space.get(axis))
-    } else {
-        0.0
-    }
+const POLICY: Policy = Policy::Smear;
+
+/// A thin axis has less than this share of the widest side.
+const THIN: f64 = 0.125;
+
+/// Where some axes come before others, the worth of these counts so much.
+const OF_OTHERS: f64 = 0.001;
+
+// The worth of an axis that comes before others or is one of these.
+fn rated(is_before: bool, worth: f64) -> f64 {
+    if is_before { worth } else { OF_OTHERS * worth }
 }
 
-// Adds for each axis its share in all changes of the term.
-fn add_shares(slopes: &[Span], space: &Space, shares: &mut [f64]) {
-    let mut sum = 0.0;
-    for axis in 0..space.len() {
-        sum += change_at(slopes, space, axis);
-    }
-    if sum > 0.0 {
-        for axis in 0..space.len() {
-            add(shares, axis, change_at(slopes, space, axis) / sum);
+impl Policy {
+    // The worth of the axis, where this is the widest side; 0 where nothing is expected of a cut.
+    fn worth(self, axis: Prospect, widest: f64) -> f64 {
+        let is_thin = axis.side < THIN * widest;
+        match self {
+            Policy::Smear => axis.share,
+            Policy::EvenSmear => rated(!is_thin, axis.share),
+            Policy::FreeSmear => rated(!is_thin && !axis.is_defined, axis.share),
+            Policy::FreeSide => rated(!axis.is_defined, axis.side),
         }
     }
 }
 
-// For each axis the sum of its shares in the changes of the atoms that ask for something.
-fn shares(alloc: Global, patch: &Patch) -> Result<Vec<f64, Global>, AllocError> {
-    let problem = patch.problem();
-    let space = patch.reached().space();
-    let atoms = problem.atoms();
-    let mut slopes = Slopes::of(alloc, problem.graph(), space.len())?;
-    let mut shares = vec![in alloc; 0.0; space.len()]?;
-    for j in 0..atoms.len() {
-        if is_asking_at(patch, j) {
-            let of_atom = slopes.sweep(problem.graph(), atoms[j].term, patch.rows());
-            add_shares(of_atom, space, &mut shares);
+// The greatest side.
+fn widest_side(prospects: &[Prospect]) -> f64 {
+    let mut widest = 0.0;
+    for prospect in prospects {
+        if prospect.side > widest {
+            widest = prospect.side;
         }
     }
-    Ok(shares)
+    widest
 }
 
-// The first place of the greatest number above 0, if there is one.
-fn greatest(numbers: &[f64]) -> Option<usize> {
+// The first axis of most worth, of those with a side above the least, if one has any.
+fn best_axis(prospects: &[Prospect], least: f64) -> Option<u32> {
+    let widest = widest_side(prospects);
     let mut best = None;
     let mut most = 0.0;
-    for i in 0..numbers.len() {
-        let number = at(numbers, i);
-        if number > most {
-            best = Some(i);
-            most = number;
+    for axis in 0..prospects.len() {
+        let worth = POLICY.worth(prospects[axis], widest);
+        if prospects[axis].side > least && worth > most {
+            best = Some(axis);
+            most = worth;
         }
     }
-    best
+    u32::try_from(best?).ok()
 }
 
-// The axis with the greatest share in what the atoms may change by (smear), if there is one.
-fn smeared_axis(alloc: Global, patch: &Patch) -> Result<Option<u32>, AllocError> {
-    let shares = shares(alloc, patch)?;
-    match greatest(&shares) {
-        Some(axis) => Ok(u32::try_from(axis).ok()),
-        None => Ok(None),
-    }
+// The axis that the policy names, if it names one.
+fn named_axis(alloc: Global, patch: &Patch) -> Result<Option<u32>, AllocError> {
+    let prospects = prospects(alloc, patch)?;
+    let least = approximate(two_to_minus(patch.margins().least_bits));
+    Ok(best_axis(&prospects, least))
 }
 
 // Cuts the axis, if there is one, where it may be cut and nothing else is left to do.
@@ -111,7 +112,7 @@ pub fn cut(alloc: Global, patch: &mut Patch) -> Result<bool, AllocError>
     ensures same { IfOk result (λ b. b ≡ false → patch.new ≡ patch.old) }
 {
     if patch.margins().version >= 5 {
-        let axis = smeared_axis(alloc, patch)?;
+        let axis = named_axis(alloc, patch)?;
         if cut_at(axis, patch) {
             return Ok(true);
         }
