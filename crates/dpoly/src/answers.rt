@@ -24,6 +24,9 @@ pub struct SearchAnswer {
     pub text: Vec<u8>,
 }
 
+/// The latest version of the format that a search may write.
+pub const LATEST: u32 = 5;
+
 /// What the words ask of a search.
 pub fn search_options(options: &Options) -> cover_rule::Options
     ensures { result ≡ options_of options.now }
@@ -32,6 +35,7 @@ pub fn search_options(options: &Options) -> cover_rule::Options
         delta_bits: options.delta_bits,
         margin_bits: options.margin_bits,
         least_bits: options.least_bits,
+        version: LATEST,
         budget: options.budget,
         workers: options.workers,
         bound: options.bound,

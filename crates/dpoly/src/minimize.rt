@@ -13,7 +13,7 @@ ghost use Rattle.check_run.specs.Script.{IsAtomOf, IsWithin};
 ghost use Rattle.dpoly.specs.Minimize.{IsAcceptedFor, IsFoundAnswer, IsMinimizeAnswer, told_cause};
 ghost use Rattle.dpoly.specs.Search.{search_options as options_of};
 
-use crate::answers::{SearchAnswer, search_options, tell_left};
+use crate::answers::{LATEST, SearchAnswer, search_options, tell_left};
 use crate::leaf::Engine;
 use check_run::{Cause, GoalBounds, Status, end_no_goal, finish, goal_bounds};
 use command_line::MinimizeWords;
@@ -23,12 +23,15 @@ use desk::Desk;
 use least_search::{Ending, Found, Least, Lower, minimize};
 use least_text::{write_limited, write_over};
 use poly_graph::Problem;
-use solve_core::{Gate, solve};
+use solve_core::{Gate, search_on, solve};
 use std::alloc::{AllocError, Global};
 use std::sync::Wait;
 use std::thread::Threads;
 
-// The book that a search for a problem with these options leaves.
+// The version of the format in which the first search begins.
+const FIRST: u32 = 2;
+
+// The book that a search for a problem with these options leaves, which begins in their version.
 fn search_with<R: Threads + Wait + Sync, G: Gate + Sync>(
     engine: &Engine<'_, R, G>,
     alloc: Global,
@@ -38,8 +41,12 @@ fn search_with<R: Threads + Wait + Sync, G: Gate + Sync>(
     requires { IsWithinLimits problem.now options.now }
     ensures { IfOk result (IsBookOf problem.now options.now) }
 {
-    let book = solve(engine.rt, alloc, problem, options, engine.gate)?;
-    Ok(book)
+    if options.version >= LATEST {
+        let book = Book::new(alloc, problem.try_clone(alloc)?, *options)?;
+        return search_on(engine.rt, alloc, book, engine.gate);
+    }
+    let options = options.in_version(LATEST);
+    solve(engine.rt, alloc, problem, &options, engine.gate)
 }
 
 // What a search for the least value finds.
@@ -56,7 +63,7 @@ fn search_least<R: Threads + Wait + Sync, G: Gate + Sync>(
     ensures { IfOk result
         (IsLeast problem.now goal asked.now.gap_bits (options_of asked.now.options)) }
 {
-    let options = search_options(&asked.options);
+    let options = search_options(&asked.options).in_version(FIRST);
     let searcher = |alloc: Global, problem: &Problem, options: &Options| -> Result<Book, AllocError>
         requires { IsWithinLimits problem.now options.now }
         ensures { IfOk result (IsBookOf problem.now options.now) }
@@ -84,7 +91,10 @@ fn certificate(alloc: Global, options: &Options, found: &Found) -> Result<Vec<u8
 {
     let point = found.point.space();
     match &found.lower {
-        Lower::Root(bound) => write_over(alloc, options, *bound, point),
+        Lower::Root(bound) => {
+            let options = options.in_version(found.version);
+            write_over(alloc, &options, *bound, point)
+        }
         Lower::Limit(book, bits, bound) => write_limited(alloc, book, *bits, *bound, point),
     }
 }

@@ -118,6 +118,7 @@ fn search_limited<F: Fn(Global, &Problem, &Options) -> Result<Book, AllocError>>
             bounds.budget,
             bounds.patience,
         ),
+        version: bounds.version,
         ..*aim.options
     };
     let book = searcher(alloc, &limited.problem, &options)?;
@@ -220,6 +221,16 @@ fn take_by_verdict(
     }
 }
 
+// The version in which a search ended is that of what shows the lower bound, and of the next search.
+fn go_over(bounds: &mut Bounds, version: u32) {
+    if version >= 5 {
+        if let Lower::Limit(book, _, _) = &mut bounds.lower {
+            book.raise();
+        }
+    }
+    bounds.version = version;
+}
+
 // What the next search is for, behind one of this verdict and limit, and with which budget at least.
 fn plan_next(bounds: &mut Bounds, verdict: BookVerdict, limit: Dy, near: bool)
     ensures same { bounds.new ≡ record bounds.old
@@ -254,6 +265,7 @@ fn take_book(
     let phase = bounds.phase;
     let gaps = aim.gap_bits.saturating_sub(1);
     let near = is_settled(Some(limited.limit), bounds.upper, gaps);
+    go_over(bounds, book.options().version);
     plan_next(bounds, book.verdict(), limited.limit, near);
     take_by_verdict(alloc, aim, bounds, limited, book, phase)
 }
@@ -379,6 +391,7 @@ fn bounds_of(
     aim: &mut Aim<'_>,
     point: &Point,
     budget: u32,
+    version: u32,
 ) -> Result<Bounds, AllocError>
     requires ready { IsReady aim.old }
     requires shown { IsShownFor aim.old point.now }
@@ -398,6 +411,7 @@ fn bounds_of(
         phase: Phase::Probing,
         tried: None,
         patience: PROBE,
+        version,
     })
 }
 
@@ -423,6 +437,7 @@ fn find<F: Fn(Global, &Problem, &Options) -> Result<Book, AllocError>>(
     aim: &mut Aim<'_>,
     point: &Point,
     budget: u32,
+    version: u32,
 ) -> Result<Found, AllocError>
     requires takes { (a p o : _) → IsWithinLimits p.now o.now → F.pre searcher.now a p o }
     requires gives { (a p o r : _) → F.post searcher.now a p o r →
@@ -434,7 +449,7 @@ fn find<F: Fn(Global, &Problem, &Options) -> Result<Book, AllocError>>(
     ensures { let a = aim.old in
         IfOk result (IsFound a.problem.now a.goal a.gap_bits a.options.now) }
 {
-    let mut bounds = bounds_of(alloc, aim, point, budget)?;
+    let mut bounds = bounds_of(alloc, aim, point, budget, version)?;
     begin_low(alloc, aim, &mut bounds)?;
     let ending = improve(searcher, alloc, aim, &mut bounds)?;
     Ok(Found {
@@ -442,13 +457,14 @@ fn find<F: Fn(Global, &Problem, &Options) -> Result<Book, AllocError>>(
         point: bounds.point,
         upper: bounds.upper,
         ending,
+        version: bounds.version,
     })
 }
 
 /// Searches for the least value of the goal, the term of atom `goal`, until the bounds are within `2^-gap_bits`, the budget
 /// of the options, which is that of all searches together, is spent, or no search helps any more. Each search but the first
 /// costs one of the budget beside what it splits. The searcher is called with a problem and options, and gives a book of
-/// them with an answer.
+/// them with an answer, in the version of the options or in version 5, in which all later searches begin then.
 pub fn minimize<F: Fn(Global, &Problem, &Options) -> Result<Book, AllocError>>(
     searcher: &F,
     alloc: Global,
@@ -470,6 +486,7 @@ pub fn minimize<F: Fn(Global, &Problem, &Options) -> Result<Book, AllocError>>(
         return Ok(Least::NoPoint(book));
     };
     let budget = options.budget - book.branches();
+    let version = book.options().version;
     let mut aim = Aim::new(alloc, problem, goal, gap_bits, options)?;
-    Ok(Least::Found(find(searcher, alloc, &mut aim, point, budget)?))
+    Ok(Least::Found(find(searcher, alloc, &mut aim, point, budget, version)?))
 }
