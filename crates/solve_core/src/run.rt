@@ -440,7 +440,8 @@ fn append(books: &mut Vec<Book>, book: Book) -> Result<(), AllocError>
             earlier.raise();
         }
     }
-    books.push(book)
+    books.push(book)?;
+    Ok(())
 }
 
 // Searches at each check, and appends the books.
