@@ -6,7 +6,7 @@ use Rattle.cert_model.specs.Accepted.{certificate_text}
 use Rattle.cert_resume.specs.declared.going.Going.{Going}
 
 abbrev pub header_lines : Options → ℕ → List CertLine
-header_lines o k = version 2 ∷ margin o.margin_bits ∷ delta o.delta_bits ∷ bound o.bound ∷ cover k ∷ []
+header_lines o k = version o.version ∷ margin o.margin_bits ∷ delta o.delta_bits ∷ bound o.bound ∷ cover k ∷ []
 
 -- the header and the lines of the lemmas that were read, the lemmas that were learned, and the main tree
 abbrev pub whole_text : Options → List CertLine → Going → List ℕ
