@@ -9,7 +9,7 @@ ghost use Rattle.cover_book.specs.Limits.{IsWithinLimits};
 ghost use Rattle.cover_book.specs.Verdict.{verdict_of};
 ghost use Rattle.cover_book.specs.declared.verdict.BookVerdict.TheVariants as verdicts;
 ghost use Rattle.least_search.specs.Aims.{IsReady, IsSameAim};
-ghost use Rattle.least_search.specs.Found.{AreBoundsOf, AreFar, BeginsFor, IsBookOf, IsEndingAt, IsFound, IsLeast, IsNextSearch, IsSearchOf, IsShownFor, bound_of, span_of, weight};
+ghost use Rattle.least_search.specs.Found.{AreBoundsOf, AreFar, BeginsFor, IsBookOf, IsEndingAt, IsFound, IsLeast, IsNextSearch, IsSearchOf, IsSearchVersion, IsShownFor, IsVersionAfter, bound_of, lower_behind, span_of, weight};
 ghost use Rattle.least_search.specs.Limits.{IsLimited, IsNotBelow, StaysAbove, span_in};
 ghost use Rattle.least_search.specs.declared.limits.Phase.TheVariants as phase;
 
@@ -109,6 +109,8 @@ fn search_limited<F: Fn(Global, &Problem, &Options) -> Result<Book, AllocError>>
     requires bounds { AreBoundsOf aim.now bounds.now }
     requires budget { 0 < bounds.now.budget }
     ensures book { IfOk result (IsSearchOf aim.now limited.now) }
+    ensures version { IfOk result (λ b.
+        IsVersionAfter bounds.now.version b.options.version) }
     ensures less { IfOk result (λ b. b.branches < bounds.now.budget) }
 {
     let options = Options {
@@ -129,6 +131,7 @@ fn search_limited<F: Fn(Global, &Problem, &Options) -> Result<Book, AllocError>>
 fn take_closed(aim: &Aim<'_>, bounds: &mut Bounds, limited: Limited, book: Book)
     requires bounds { AreBoundsOf aim.now bounds.old }
     requires search { IsNextSearch aim.now bounds.old limited book }
+    requires version { book.options.version ≡ bounds.old.version }
     requires closed { verdict_of book ≡ verdicts.Unsat }
     requires tried { bounds.old.tried ≡ None }
     ensures bounds { AreBoundsOf aim.now bounds.new }
@@ -190,6 +193,7 @@ fn take_by_verdict(
     requires bounds { AreBoundsOf aim.old bounds.old }
     requires far { AreFar (span_of aim.old.gap_bits bounds.old) }
     requires search { IsNextSearch aim.old bounds.old limited book }
+    requires version { book.options.version ≡ bounds.old.version }
     requires tried { verdict_of book ≡ verdicts.Unsat → bounds.old.tried ≡ None }
     ensures ready { IsReady aim.new }
     ensures same { IsSameAim aim.old aim.new }
@@ -222,7 +226,10 @@ fn take_by_verdict(
 }
 
 // The version in which a search ended is that of what shows the lower bound, and of the next search.
-fn go_over(bounds: &mut Bounds, version: u32) {
+fn go_over(bounds: &mut Bounds, version: u32)
+    ensures { bounds.new ≡ record bounds.old
+        { lower = lower_behind version bounds.old.lower; version = version } }
+{
     if version >= 5 {
         if let Lower::Limit(book, _, _) = &mut bounds.lower {
             book.raise();
@@ -256,6 +263,7 @@ fn take_book(
     requires bounds { AreBoundsOf aim.old bounds.old }
     requires far { AreFar (span_of aim.old.gap_bits bounds.old) }
     requires search { IsNextSearch aim.old bounds.old limited book }
+    requires version { IsVersionAfter bounds.old.version book.options.version }
     ensures ready { IsReady aim.new }
     ensures same { IsSameAim aim.old aim.new }
     ensures bounds { AreBoundsOf aim.old bounds.new }
@@ -396,6 +404,7 @@ fn bounds_of(
     requires ready { IsReady aim.old }
     requires shown { IsShownFor aim.old point.now }
     requires begins { BeginsFor aim.old point.now budget }
+    requires version { IsSearchVersion version }
     requires crossed { is_crossed_box (problem_of aim.old.problem.now) ≡ false }
     ensures ready { IsReady aim.new }
     ensures same { IsSameAim aim.old aim.new }
@@ -445,6 +454,7 @@ fn find<F: Fn(Global, &Problem, &Options) -> Result<Book, AllocError>>(
     requires ready { IsReady aim.old }
     requires shown { IsShownFor aim.old point.now }
     requires begins { BeginsFor aim.old point.now budget }
+    requires version { IsSearchVersion version }
     requires crossed { is_crossed_box (problem_of aim.old.problem.now) ≡ false }
     ensures { let a = aim.old in
         IfOk result (IsFound a.problem.now a.goal a.gap_bits a.options.now) }
