@@ -18,6 +18,7 @@ version_limits v h = by (nat_eq v 1) refl (nat_eq v 2) refl (nat_eq v 5) refl h
   where
     is : (n : ℕ) → nat_eq v n ≡ true → v ≡ n
     is n e = eqb→eq v n (passes _ e)
+
     by : (t : Bool) → nat_eq v 1 ≡ t → (u : Bool) → nat_eq v 2 ≡ u → (w : Bool) → nat_eq v 5 ≡ w → IsTrue (t || u || w) → (1 ≤ v) × (v ≤ 5)
     by true e u f w g h = let k = is 1 e in (omega (arith, k), omega (arith, k))
     by false e true f w g h = let k = is 2 f in (omega (arith, k), omega (arith, k))

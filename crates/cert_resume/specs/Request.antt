@@ -1,5 +1,5 @@
 -- What is asked for, as the definitions see it.
-use Rattle.std.specs.Prelude.{ℕ, ◌≤◌, cond, nat_lt}
+use Rattle.std.specs.Prelude.{◌≡◌, ◌⊎◌, ℕ, ◌≤◌, cond, nat_le}
 use Rattle.cover_data.specs.declared.margins.Options.{Options}
 use Rattle.cert_base.specs.declared.base.Base.{Base}
 use Rattle.cert_resume.specs.declared.request.Request.{Request}
@@ -16,7 +16,11 @@ pub record IsShare (h : code.Share) : Type 0 where
 
 -- the version in which a search begins that goes on from one of this version
 abbrev pub first_version : ℕ → ℕ
-first_version v = cond (nat_lt v 5) 2 5
+first_version v = cond (nat_le v 2) 2 5
+
+-- the second is the version of a search that begins in the first one, and may go over to 5
+abbrev pub IsVersionOn : ℕ → ℕ → Type 0
+IsVersionOn v w = (w ≡ v) ⊎ (w ≡ 5)
 
 -- what books are searched for that go on from the base, with so many branches left
 abbrev pub options_with : Base → Request → ℕ → Options

@@ -40,7 +40,7 @@ impl Share {
 fn first_version(version: u32) -> u32
     ensures { result ≡ first_version version }
 {
-    if version < 5 { 2 } else { 5 }
+    if version <= 2 { 2 } else { 5 }
 }
 
 /// What a book is searched for that goes on from the base, with so many branches left.

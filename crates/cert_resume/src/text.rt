@@ -46,7 +46,8 @@ pub fn written(
     ensures fits { IfOk result (λ text. length text.items ≤ most_bytes) }
 {
     let mut text = Vec::new(alloc);
-    append_header(&mut text, options, going.lemmas.len() as u32)?;
+    let options = options.in_version(going.version);
+    append_header(&mut text, &options, going.lemmas.len() as u32)?;
     append_lines(&mut text, lemma_lines)?;
     text.extend_from_slice(&going.learned)?;
     append_line(&mut text, &Line::Tree)?;

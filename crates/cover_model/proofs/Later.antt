@@ -23,6 +23,7 @@ module _ (p : Problem) (s : Loosenings) (v : ℕ) (later : s.version ≤ v) wher
       up : (b : Bool) → IsTrue (nat_le n 64) → IsTrue (nat_le n (cond b 512 64))
       up true h = le-later n 64 512 (omega arith) h
       up false h = h
+
       go : (b : Bool) → has_version_5 s ≡ b → IsTrue (nat_le n (cond b 512 64)) → IsTrue (nat_le n (most_pairs (in_version v s)))
       go true five h = subst (λ (b : Bool). IsTrue (nat_le n (cond b 512 64))) (sym (le-later 5 s.version v later five)) h
       go false five h = up (has_version_5 (in_version v s)) h
@@ -117,6 +118,7 @@ module _ (w : ℕ) (v : Fraction) (above : IsTrue (not (at_most v (exact (two_to
     where
       same : (a b : Fraction) → Some a ≡ Some b → b ≡ a
       same a b q = cc
+
       go : (t : Bool) → can_be_halved (real_domain l u) ≡ t → cond t (Some (difference_of (exact u) (exact l))) None ≡ Some v → IsTrue (is_wide_domain w (real_domain l u))
       go true c f = ap (λ (t : Bool). not (not t || at_most (difference_of (exact u) (exact l)) (exact (two_to_minus w)))) c
           ∙ subst (λ (z : Fraction). not (at_most z (exact (two_to_minus w))) ≡ true) (same (difference_of (exact u) (exact l)) v f) above
@@ -146,6 +148,7 @@ module _ (p : Problem) (s : Loosenings) (v : ℕ) (later : s.version ≤ v) (w :
       up : (b : Bool) → IsTrue (is_wide w axis (widest space)) → IsTrue (cond b (test_axis (is_wide_domain w) axis space) (is_wide w axis (widest space)))
       up true h = widest_is_wide w axis space h
       up false h = h
+
       go : (b : Bool) → has_version_5 s ≡ b → IsTrue (cond b (test_axis (is_wide_domain w) axis space) (is_wide w axis (widest space))) → IsTrue (may_be_cut w (in_version v s) axis space)
       go true five h = subst (λ (b : Bool). IsTrue (cond b (test_axis (is_wide_domain w) axis space) (is_wide w axis (widest space)))) (sym (le-later 5 s.version v later five)) h
       go false five h = up (has_version_5 (in_version v s)) h
