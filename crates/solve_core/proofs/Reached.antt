@@ -27,16 +27,19 @@ reaches_same (calls {d = d} c call reply k m s) = let e = reaches_same k in let 
 pub same_reaches : {b b' : BookModel} → b' ≡ b → Reaches b b'
 same_reaches {b = b} e = subst (Reaches b) (sym e) stays
 
+pub reaches_from : {a b c d : BookModel} → b ≡ a → Reaches b c → d ≡ c → Reaches a d
+reaches_from {d = d} e h f = subst (λ (x : BookModel). Reaches x d) e (subst (Reaches _) (sym f) h)
+
 -- ---- in one version or two
 
-own-version : (x y : Options) (v : ℕ) → x ≡ options_in v y → x ≡ options_in x.version y
-own-version x y v e = e ∙ ap (λ (n : ℕ). options_in n y) (sym (ap (λ (z : Options). z.version) e))
+pub own_version : (x y : Options) (v : ℕ) → x ≡ options_in v y → x ≡ options_in x.version y
+own_version x y v e = e ∙ ap (λ (n : ℕ). options_in n y) (sym (ap (λ (z : Options). z.version) e))
 
 pub searched_same : {b c : BookModel} → IsSearched b c → (c.problem ≡ b.problem) × (c.options ≡ options_in c.options.version b.options) × (c.kept ≡ b.kept) × (c.root ≡ b.root)
-searched_same {b = b} {c = d} (in_one_version h) = let e = reaches_same h in (e.0, own-version d.options b.options b.options.version e.1, e.2, e.3)
+searched_same {b = b} {c = d} (in_one_version h) = let e = reaches_same h in (e.0, own_version d.options b.options b.options.version e.1, e.2, e.3)
 searched_same {b = b} {c = d} (in_two_versions c h k) =
     let e = reaches_same h in let f = reaches_same k in
-    (f.0 ∙ e.0, own-version d.options b.options 5 (f.1 ∙ ap (options_in 5) e.1), f.2 ∙ e.2, f.3 ∙ e.3)
+    (f.0 ∙ e.0, own_version d.options b.options 5 (f.1 ∙ ap (options_in 5) e.1), f.2 ∙ e.2, f.3 ∙ e.3)
 
 -- a book that was searched for goes over to version 5, where it is not of that
 pub searched_raised : {b c : BookModel} → IsSearched b c → IsSearched b (raised c)
@@ -50,12 +53,12 @@ module _ (o : Options) (book : BookModel) (same : book.options ≡ options_in bo
   pub in_its_version : (b : BookModel) → Reaches book b → IsInVersionOf o book.options.version b
   in_its_version b h =
       let e = (reaches_same h).1 ∙ same in
-      record { options = own-version b.options o book.options.version e; version = inl (ap (λ (z : Options). z.version) e) }
+      record { options = own_version b.options o book.options.version e; version = inl (ap (λ (z : Options). z.version) e) }
 
   pub in_that_of_options : o.version ≡ 5 → (c b : BookModel) → Reaches book c → Reaches (raised c) b → IsInVersionOf o book.options.version b
   in_that_of_options five c b h k =
       let e = (reaches_same k).1 ∙ ap (options_in 5) ((reaches_same h).1 ∙ same) in
-      record { options = own-version b.options o 5 e; version = inr (ap (λ (z : Options). z.version) e ∙ sym five) }
+      record { options = own_version b.options o 5 e; version = inr (ap (λ (z : Options). z.version) e ∙ sym five) }
 
   pub raised_options : o.version ≡ 5 → (c : BookModel) → Reaches book c → (raised c).options ≡ o
   raised_options five c h = ap (options_in 5) ((reaches_same h).1 ∙ same) ∙ ap (λ (n : ℕ). options_in n o) (sym five)

@@ -1,5 +1,5 @@
 // The search: by many workers on one book, and then by the caller alone.
-ghost use Rattle.std.specs.Prelude.{◌≡◌, ◌≢◌, ◌<◌, ◌≤◌, ◌-◌, true, false, cond, length, All, IfOk, OnOk, []};
+ghost use Rattle.std.specs.Prelude.{◌≡◌, ◌≢◌, ◌<◌, ◌≤◌, ◌-◌, true, false, cond, nat_le, length, map, All, IfOk, OnOk, []};
 ghost use Rattle.poly_graph.specs.ProblemViews.{problem_of};
 ghost use Rattle.problem_session.specs.Session.{problems_of};
 ghost use Rattle.cover_model.specs.Carried.{GoesOnFrom};
@@ -34,7 +34,7 @@ const MOST_WORKERS: u32 = 64;
 // Threads start when so many boxes wait.
 const ENOUGH: usize = 2;
 
-// A search that may go over to version 5 makes so many branches in version 2 first.
+// A search that may go over to version 5 does so once it has made more branches than these.
 const FIRST_BRANCHES: u32 = 64;
 
 // Until when the caller works alone.
@@ -42,15 +42,15 @@ const FIRST_BRANCHES: u32 = 64;
 enum Until {
     // so many boxes wait
     Waiting(usize),
-    // there are so many branches
-    Branches(u32),
+    // there are more branches
+    Beyond(u32),
 }
 
 // Whether it is time.
 fn is_time(until: Until, search: &Search) -> bool {
     match until {
         Until::Waiting(enough) => search.waiting.len() >= enough,
-        Until::Branches(enough) => search.book.branches() >= enough,
+        Until::Beyond(first) => search.book.branches() > first,
     }
 }
 
@@ -63,8 +63,7 @@ fn work_once<G: Gate>(
 ) -> Result<bool, AllocError>
     requires search { IsSearch search.old search.old.waiting.items }
     requires room { room.old ≡ search.old.book.problem }
-    ensures search { IfOk result (λ b. b ≡ true →
-        IsSearch search.new search.new.waiting.items) }
+    ensures search { OnOk result (IsSearch search.new search.new.waiting.items) }
     ensures less { IfOk result (λ b. b ≡ true → work_left search.new < work_left search.old) }
     ensures over { IfOk result (λ b. b ≡ false → LeavesDue search.new.book) }
     ensures reached { Reaches search.old.book search.new.book }
@@ -90,8 +89,7 @@ fn work_until<G: Gate>(
 ) -> Result<bool, AllocError>
     requires search { IsSearch search.old search.old.waiting.items }
     requires room { room.old ≡ search.old.book.problem }
-    ensures search { IfOk result (λ b. b ≡ true →
-        IsSearch search.new search.new.waiting.items) }
+    ensures search { OnOk result (IsSearch search.new search.new.waiting.items) }
     ensures less { IfOk result (λ b. b ≡ true → work_left search.new < work_left search.old) }
     ensures reached { Reaches search.old.book search.new.book }
     ensures room { room.new ≡ room.old }
@@ -112,7 +110,8 @@ fn work_to_start<G: Gate>(
 ) -> Result<(), AllocError>
     requires search { IsSearch search.old search.old.waiting.items }
     requires room { room.old ≡ search.old.book.problem }
-    ensures { Reaches search.old.book search.new.book }
+    ensures search { OnOk result (IsSearch search.new search.new.waiting.items) }
+    ensures reached { Reaches search.old.book search.new.book }
 {
     while work_until(alloc, search, room, until, gate)? {}
     Ok(())
@@ -144,7 +143,8 @@ fn start_work<G: Gate>(
 ) -> Result<(), AllocError>
     requires search { IsSearch search.old search.old.waiting.items }
     requires problem { search.old.book.problem ≡ problem.now }
-    ensures { Reaches search.old.book search.new.book }
+    ensures search { OnOk result (IsSearch search.new search.new.waiting.items) }
+    ensures reached { Reaches search.old.book search.new.book }
 {
     let mut room = Room::new(problem);
     let done = work_to_start(alloc, search, &mut room, until, gate);
@@ -170,12 +170,31 @@ fn finish_work<G: Gate>(
     done
 }
 
-// Works alone at first: a problem of few boxes is done before threads start, or before the version is another one.
+// As `start_work` until the book has more than the first branches, and else as `finish_work`. Whether that is done.
+fn work_at_first<G: Gate>(
+    alloc: Global,
+    search: &mut Search,
+    problem: &Problem,
+    gate: &G,
+) -> Result<bool, AllocError>
+    requires search { IsSearch search.old search.old.waiting.items }
+    requires problem { search.old.book.problem ≡ problem.now }
+    ensures reached { Reaches search.old.book search.new.book }
+    ensures left { IfOk result (λ done. done ≡ true → LeavesDue search.new.book) }
+{
+    start_work(alloc, search, problem, Until::Beyond(FIRST_BRANCHES), gate)?;
+    if search.book.branches() > FIRST_BRANCHES {
+        return Ok(false);
+    }
+    finish_work(alloc, search, problem, gate)?;
+    Ok(true)
+}
+
+// Works alone at first: a problem of few boxes is done before threads start.
 fn start<G: Gate>(
     alloc: Global,
     book: Book,
     problem: &Problem,
-    until: Until,
     gate: &G,
 ) -> Result<Book, AllocError>
     requires { book.problem ≡ problem.now }
@@ -184,7 +203,7 @@ fn start<G: Gate>(
     ensures options { IfOk result (λ b. b.options ≡ book.options) }
 {
     let mut search = Search::resume(alloc, book)?;
-    start_work(alloc, &mut search, problem, until, gate)?;
+    start_work(alloc, &mut search, problem, Until::Waiting(ENOUGH), gate)?;
     Ok(search.into_book())
 }
 
@@ -229,7 +248,7 @@ fn search_from<R: Threads + Wait + Sync, G: Gate + Sync>(
     if workers < 2 {
         return finish(alloc, book, problem, gate);
     }
-    let begun = start(alloc, book, problem, Until::Waiting(ENOUGH), gate)?;
+    let begun = start(alloc, book, problem, gate)?;
     if !matches!(begun.verdict(), BookVerdict::NotYet) {
         return finish(alloc, begun, problem, gate);
     }
@@ -268,7 +287,7 @@ fn raised(book: Book) -> Book
 }
 
 // Searches on from a book of the problem. Where it is of version 2, the options are of version 5 and there is a choice of
-// axes, the caller makes some branches alone, and goes over to version 5 where there is no answer yet.
+// axes, the caller works alone at first, and the search goes over to version 5 once the book has more branches.
 fn search_in_versions<R: Threads + Wait + Sync, G: Gate + Sync>(
     rt: &R,
     alloc: Global,
@@ -290,9 +309,11 @@ fn search_in_versions<R: Threads + Wait + Sync, G: Gate + Sync>(
         let own = *book.options();
         return search_from(rt, alloc, book, problem, &own, gate);
     }
-    let begun = start(alloc, book, problem, Until::Branches(FIRST_BRANCHES), gate)?;
-    if !matches!(begun.verdict(), BookVerdict::NotYet) {
-        return finish(alloc, begun, problem, gate);
+    let mut search = Search::resume(alloc, book)?;
+    let is_done = work_at_first(alloc, &mut search, problem, gate)?;
+    let begun = search.into_book();
+    if is_done {
+        return Ok(begun);
     }
     search_from(rt, alloc, raised(begun), problem, options, gate)
 }
@@ -329,7 +350,7 @@ pub fn search_on<R: Threads + Wait + Sync, G: Gate + Sync>(
 /// The gate is called before and after the work on each node.
 ///
 /// The search begins in version 2 of the format. Where the options are of version 5 and more than one axis is a Real one,
-/// the caller makes 64 branches alone, and where there is no answer by then, the search goes on in version 5.
+/// the caller works alone at first, and once the book has more than 64 branches, the search goes on in version 5.
 pub fn solve<R: Threads + Wait + Sync, G: Gate + Sync>(
     rt: &R,
     alloc: Global,
@@ -401,8 +422,8 @@ fn solve_next<R: Threads + Wait + Sync, G: Gate + Sync>(
     requires problem { opened.1.problem ≡ opened.0 }
     requires options { opened.1.options ≡ options_in opened.1.options.version options.now }
     requires margins { AreMargins (margins_of options.now) }
-    ensures searched { IfOk result (IsSearched opened.entry.1) }
-    ensures options { IfOk result (IsInVersionOf options.now opened.entry.1.options.version) }
+    ensures searched { IfOk result (IsSearched opened.1) }
+    ensures options { IfOk result (IsInVersionOf options.now opened.1.options.version) }
     ensures verdict { IfOk result (λ b. verdict_of b ≢ verdict.NotYet) }
     ensures left { IfOk result (λ b. LeavesDue b) }
     ensures book { IfOk result (λ b. IsBook b) }
@@ -431,15 +452,23 @@ fn solve_first<R: Threads + Wait + Sync, G: Gate + Sync>(
     solve(rt, alloc, &problem, options, gate)
 }
 
+// The books go over to version 5, where this is one.
+fn raise_to(version: u32, books: &mut [Book])
+    ensures { books.new ≡ cond (nat_le 5 version) (map raised books.old) books.old }
+{
+    if version < 5 {
+        return;
+    }
+    for book in books.iter_mut() {
+        book.raise();
+    }
+}
+
 // Appends a book, once the others are of its version.
 fn append(books: &mut Vec<Book>, book: Book) -> Result<(), AllocError>
     ensures { OnOk result (AreAppended books.old.items book books.new.items) }
 {
-    if book.options().version >= 5 {
-        for earlier in books.iter_mut() {
-            earlier.raise();
-        }
-    }
+    raise_to(book.options().version, books.as_mut_slice());
     books.push(book)?;
     Ok(())
 }

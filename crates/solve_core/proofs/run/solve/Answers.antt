@@ -18,7 +18,7 @@ new-requires g c =
 
 -- the book as it opened
 pub search_in_versions-requires-clause-options : goal.search_in_versions-requires-clause-options
-search_in_versions-requires-clause-options g c =
+search_in_versions-requires-clause-options g c = λ κs h.
     let o : Options = c.args.options.now in
     let made : c.in_ok-book.book ≡ opening c.in_ok-copy.copy (options_in 2 o) = c.in_ok-book.ensures ∙ ap (opening c.in_ok-copy.copy) c.in_version.ensures in
     subst (λ (b : BookModel). b.options ≡ options_in b.options.version o) (sym made) refl
