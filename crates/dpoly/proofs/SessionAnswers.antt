@@ -1,5 +1,5 @@
 -- From the books that searches left at the checks of a script to the answers.
-use Rattle.std.proofs.Common.{◌≡◌, ◌+◌, inl, inr, ℕ, zero, suc, List, [], ◌∷◌, ◌++◌, Bool, true, false, true≢false, Option, None, Some, IsTrue, cond, length, map, refl, ap, ap₂, sym, ◌∙◌, subst, arith, append_assoc, append-nil}
+use Rattle.std.proofs.Common.{◌≡◌, ◌≢◌, ◌⊎◌, ◌+◌, inl, inr, ℕ, zero, suc, List, [], ◌∷◌, ◌++◌, Bool, true, false, true≢false, Option, None, Some, IsTrue, cond, length, map, refl, ap, ap₂, sym, ◌∙◌, subst, arith, append_assoc, append-nil}
 use Rattle.std.specs.Prelude.{slice_get, IfOk, Result, Ok, Err}
 use Rattle.std.specs.List.{All}
 use Rattle.std.proofs.lemmas.Bool.{lt-ltb}
@@ -22,12 +22,14 @@ use Rattle.cert_model.specs.Standing.{Stands, branches_of}
 use Rattle.cover_data.specs.declared.margins.Options as cover
 use Rattle.cover_data.specs.Margins.{options_in}
 use Rattle.cover_book.specs.Model.{BookModel, problem_in}
-use Rattle.cover_book.specs.Verdict.{has_live}
+use Rattle.cover_book.specs.Verdict.{has_live, verdict_of}
+use Rattle.cover_book.specs.Left.{LeavesDue}
+use Rattle.cover_book.specs.declared.verdict.BookVerdict.TheVariants.{NotYet}
 use Rattle.cover_book.specs.Keeps.{IsBook}
 use Rattle.cover_book.specs.Session.{AreBooksOf, next_kept}
 use Rattle.cert_text.specs.Session.{IsSessionText, TellsOf, session_version}
 use Rattle.cert_text.proofs.Leftovers.{left_tells_of_nodes}
-use Rattle.solve_core.specs.Solved.{IsCheckWithin, IsSolved}
+use Rattle.solve_core.specs.Solved.{IsCheckWithin, IsInVersionOf, IsSolved}
 use Rattle.check_run.specs.Answer.{loosenings_of, solve_texts, AreFoundFrom, IsFound, IsFoundPart}
 use Rattle.check_run.specs.Script.{AreWithin, IsWithin}
 use Rattle.dpoly.specs.declared.answers.SearchAnswer.{SearchAnswer}
@@ -68,7 +70,14 @@ pub both_ok : {X E : Type 0} {P Q R : X → Type 0} (r : Result X E) → IfOk r 
 both_ok (Ok x) p q f = f x p q
 both_ok (Err e) p q f = tt
 
+pub three_ok : {X E : Type 0} {P Q R S : X → Type 0} (r : Result X E) → IfOk r P → IfOk r Q → IfOk r R → ((x : X) → P x → Q x → R x → S x) → IfOk r S
+three_ok (Ok x) p q s f = f x p q s
+three_ok (Err e) p q s f = tt
+
 -- ---- one check
+
+pub left_of_search : (o : Options) (b : BookModel) → IsInVersionOf (search_options o) 2 b → verdict_of b ≢ NotYet → LeavesDue b → IsLeftBy o b
+left_of_search o b is verdict left = record { version = lines_version b.options.version is.version; asked = is.options; ended = verdict; due = left }
 
 pub record OneOf (session : List (Parts × Bool)) (p : Parts) : Type 0 where
   pub extends : Bool

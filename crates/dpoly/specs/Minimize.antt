@@ -24,6 +24,13 @@ use Rattle.check_run.specs.declared.minimized.Cause.TheVariants.{Near, Spent, Na
 use Rattle.check_run.specs.Answer.{loosenings_of, IsAnswer}
 use Rattle.check_run.specs.Minimized.{Cause, IsLeastAnswer, minimize_text}
 use Rattle.dpoly.specs.declared.answers.SearchAnswer.{SearchAnswer}
+use Rattle.dpoly.specs.Search.{search_options}
+
+-- ---- the searches
+
+-- the words' options, as the first search takes them
+abbrev pub first_options : Options → cover.Options
+first_options options = options_in 2 (search_options options)
 
 -- ---- the value of the certificate
 

@@ -3,9 +3,9 @@ ghost use Rattle.std.specs.Prelude.{◌≡◌, [], ◌∷◌, Bool, List, None, 
 ghost use Rattle.command_line.specs.declared.request.Options.{Options};
 ghost use Rattle.cover_book.specs.Keeps.{IsBook};
 ghost use Rattle.cover_book.specs.Model.{IsOfRoot, problem_in};
-ghost use Rattle.cover_book.specs.Session.{AreBooksOf};
 ghost use Rattle.poly_graph.specs.ProblemViews.{Parts};
 ghost use Rattle.problem_session.specs.Session.{problems_of};
+ghost use Rattle.solve_core.specs.Solved.{AreBooksInOneVersion};
 ghost use Rattle.cover_book.specs.Verdict.{verdict_of};
 ghost use Rattle.cover_book.specs.declared.verdict.BookVerdict.TheVariants as verdict;
 ghost use Rattle.dpoly.specs.Minimize.{IsLeftAnswer};
@@ -156,7 +156,7 @@ pub fn tell_all(
 ) -> Result<SearchAnswer, AllocError>
     requires { AreLeftBy options.now books.now }
     ensures { (c d : Parts × Bool) (later : List (Parts × Bool)) →
-        AreBooksOf (options_of options.now) [] (c ∷ d ∷ later) books.now →
+        AreBooksInOneVersion (options_of options.now) (c ∷ d ∷ later) books.now →
         IfOk result (λ told. AreSearchAnswers (problems_of (c ∷ d ∷ later)) options.now told) }
 {
     let cert = write_session(alloc, books)?;

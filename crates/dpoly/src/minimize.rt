@@ -10,13 +10,12 @@ ghost use Rattle.check_run.specs.Course.{RunEnds};
 ghost use Rattle.check_run.specs.Minimized.{CanMinimize};
 ghost use Rattle.check_run.specs.Run.{MinimizeHasCause, SameIn};
 ghost use Rattle.check_run.specs.Script.{IsAtomOf, IsWithin};
-ghost use Rattle.dpoly.specs.Minimize.{IsAcceptedFor, IsFoundAnswer, IsMinimizeAnswer, told_cause};
-ghost use Rattle.dpoly.specs.Search.{search_options as options_of};
+ghost use Rattle.dpoly.specs.Minimize.{IsAcceptedFor, IsFoundAnswer, IsMinimizeAnswer, first_options, told_cause};
 
 use crate::answers::{LATEST, SearchAnswer, search_options, tell_left};
 use crate::leaf::Engine;
 use check_run::{Cause, GoalBounds, Status, end_no_goal, finish, goal_bounds};
-use command_line::MinimizeWords;
+use command_line::{MinimizeWords, Options as Asked};
 use cover_book::Book;
 use cover_data::Options;
 use desk::Desk;
@@ -31,7 +30,45 @@ use std::thread::Threads;
 // The version of the format in which the first search begins.
 const FIRST: u32 = 2;
 
-// The book that a search for a problem with these options leaves, which begins in their version.
+// What the words ask of the first search.
+fn first_options(options: &Asked) -> Options
+    ensures { result ≡ first_options options.now }
+{
+    search_options(options).in_version(FIRST)
+}
+
+// The book that a search for a problem in the version of these options leaves.
+fn search_latest<R: Threads + Wait + Sync, G: Gate + Sync>(
+    engine: &Engine<'_, R, G>,
+    alloc: Global,
+    problem: &Problem,
+    options: &Options,
+) -> Result<Book, AllocError>
+    requires { IsWithinLimits problem.now options.now }
+    ensures { IfOk result (IsBookOf problem.now options.now) }
+{
+    let book = Book::new(alloc, problem.try_clone(alloc)?, *options)?;
+    let book = search_on(engine.rt, alloc, book, engine.gate)?;
+    Ok(book)
+}
+
+// The book that a search for a problem leaves which may go over to the latest version.
+fn search_first<R: Threads + Wait + Sync, G: Gate + Sync>(
+    engine: &Engine<'_, R, G>,
+    alloc: Global,
+    problem: &Problem,
+    options: &Options,
+) -> Result<Book, AllocError>
+    requires limits { IsWithinLimits problem.now options.now }
+    requires version { options.now.version < 5 }
+    ensures { IfOk result (IsBookOf problem.now options.now) }
+{
+    let latest = options.in_version(LATEST);
+    let book = solve(engine.rt, alloc, problem, &latest, engine.gate)?;
+    Ok(book)
+}
+
+// The book that a search for a problem leaves, which begins in the version of these options.
 fn search_with<R: Threads + Wait + Sync, G: Gate + Sync>(
     engine: &Engine<'_, R, G>,
     alloc: Global,
@@ -42,11 +79,10 @@ fn search_with<R: Threads + Wait + Sync, G: Gate + Sync>(
     ensures { IfOk result (IsBookOf problem.now options.now) }
 {
     if options.version >= LATEST {
-        let book = Book::new(alloc, problem.try_clone(alloc)?, *options)?;
-        return search_on(engine.rt, alloc, book, engine.gate);
+        search_latest(engine, alloc, problem, options)
+    } else {
+        search_first(engine, alloc, problem, options)
     }
-    let options = options.in_version(LATEST);
-    solve(engine.rt, alloc, problem, &options, engine.gate)
 }
 
 // What a search for the least value finds.
@@ -61,9 +97,9 @@ fn search_least<R: Threads + Wait + Sync, G: Gate + Sync>(
     requires within { IsWithin problem.now }
     requires goal { goal < length problem.now.atoms }
     ensures { IfOk result
-        (IsLeast problem.now goal asked.now.gap_bits (options_of asked.now.options)) }
+        (IsLeast problem.now goal asked.now.gap_bits (first_options asked.now.options)) }
 {
-    let options = search_options(&asked.options).in_version(FIRST);
+    let options = first_options(&asked.options);
     let searcher = |alloc: Global, problem: &Problem, options: &Options| -> Result<Book, AllocError>
         requires { IsWithinLimits problem.now options.now }
         ensures { IfOk result (IsBookOf problem.now options.now) }
@@ -108,10 +144,10 @@ fn tell_found(
 ) -> Result<SearchAnswer, AllocError>
     requires { IsMinimize (seen_minimize asked.now) }
     ensures { (g : ℕ) →
-        IsFound problem.now g asked.now.gap_bits (options_of asked.now.options) found.now →
+        IsFound problem.now g asked.now.gap_bits (first_options asked.now.options) found.now →
         IfOk result (IsFoundAnswer (problem_of problem.now) g (seen_minimize asked.now)) }
 {
-    let cert = certificate(alloc, &search_options(&asked.options), found)?;
+    let cert = certificate(alloc, &first_options(&asked.options), found)?;
     let cause = cause_of(found.ending);
     let budget = u64::from(asked.options.budget);
     let bounds = GoalBounds {

@@ -11,7 +11,7 @@ use crate::minimize::minimize_script;
 use crate::plan::plan_session;
 use crate::resume::resume_inputs;
 use crate::solve::{solve_demo, solve_session};
-use crate::upgrade::upgrade_read;
+use crate::upgrade_goal::upgrade_read;
 use check_run::{
     Status, end_halted, fetch_both, fetch_goal, fetch_session, fetch_several, fetch_with_goal,
     run_check, say,

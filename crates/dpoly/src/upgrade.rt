@@ -1,5 +1,5 @@
 // `upgrade`, from the problems of a script's checks to a certificate in the newest version.
-ghost use Rattle.std.specs.Prelude.{◌≡◌, [], ◌++◌, ◌+◌, ◌<◌, ◌^◌, OnOk, length};
+ghost use Rattle.std.specs.Prelude.{◌≡◌, [], ◌++◌, ◌+◌, ◌<◌, ◌^◌, None, OnOk, length};
 ghost use Rattle.problem_session.specs.Session.{problems_of};
 ghost use Rattle.cert_model.specs.SessionLaws.{IsSession};
 ghost use Rattle.cert_check.specs.Feeding.{bytes_taken, IsFedPiece};
@@ -8,13 +8,10 @@ ghost use Rattle.check_run.specs.Run.{IsReadToEnd, SameIn, UpgradeHasCause};
 ghost use Rattle.dpoly.specs.Upgrade.{EndsOnUpgrade, EndsOnUpgraded, IsKeptFor, IsReadAsKept};
 
 use cert_check::{CertFault, Feed};
-use cert_least::GoalFeed;
 use cert_upgrade::upgrade;
 use check_run::{ROOM, Status, Unconfirmed, finish, refuse};
 use desk::{Denied, Desk, Port};
-use poly_graph::Problem;
 use problem_session::Session;
-use script_reading::WithGoal;
 use std::alloc::Global;
 
 // Feeds a piece, and keeps it.
@@ -83,8 +80,8 @@ fn read_kept<D: Desk>(
     }
 }
 
-// Writes an accepted certificate in the newest version, and says so.
-fn write_upgraded<D: Desk>(alloc: Global, desk: &mut D, name: &str, kept: &[u8]) -> Status
+/// Writes an accepted certificate in the newest version, and says so.
+pub fn write_upgraded<D: Desk>(alloc: Global, desk: &mut D, name: &str, kept: &[u8]) -> Status
     ensures ends { EndsOnUpgraded name.now kept.now (D.sight desk.old) (D.sight desk.new) result }
     ensures same { SameIn (D.sight desk.old) (D.sight desk.new) }
     ensures cause { UpgradeHasCause (D.sight desk.old) (D.sight desk.new) result }
@@ -95,9 +92,9 @@ fn write_upgraded<D: Desk>(alloc: Global, desk: &mut D, name: &str, kept: &[u8])
     }
 }
 
-// Checks the certificate on its port for the checks of a session, and keeps it; where it is accepted, writes it under a
-// name in the newest version.
-fn upgrade_session<D: Desk>(
+/// Checks the certificate on its port for the checks of a session, and keeps it; where it is accepted, writes it under a
+/// name in the newest version.
+pub fn upgrade_session<D: Desk>(
     alloc: Global,
     desk: &mut D,
     cert: &str,
@@ -106,7 +103,7 @@ fn upgrade_session<D: Desk>(
     bound: Option<u32>,
 ) -> Status
     requires { IsSession (problems_of session.now) }
-    ensures ends { EndsOnUpgrade session.now bound cert.now out.now
+    ensures ends { EndsOnUpgrade None session.now bound cert.now out.now
         (D.sight desk.old) (D.sight desk.new) result }
     ensures cause { UpgradeHasCause (D.sight desk.old) (D.sight desk.new) result }
     ensures script { (D.sight desk.new).script ≡ (D.sight desk.old).script }
@@ -121,104 +118,5 @@ fn upgrade_session<D: Desk>(
         Ok(kept) => write_upgraded(alloc, desk, out, &kept),
         Err(Unconfirmed::Fault(fault)) => refuse(alloc, desk, fault),
         Err(Unconfirmed::Failed) => Status::InFailed,
-    }
-}
-
-// ---- a script with a goal
-
-// Feeds a piece, and keeps it.
-fn feed_goal_and_keep(
-    feed: &mut GoalFeed<'_>,
-    kept: &mut Vec<u8>,
-    piece: &[u8],
-) -> Result<(), CertFault> {
-    match feed.piece(piece) {
-        Ok(()) => {}
-        Err(fault) => return Err(fault),
-    }
-    match kept.extend_from_slice(piece) {
-        Ok(()) => Ok(()),
-        Err(_) => Err(CertFault::Memory),
-    }
-}
-
-// The certificate on its port by a feed that was fed nothing, whole, where it is accepted; it is read up to its first fault.
-fn goal_kept_by<D: Desk>(
-    alloc: Global,
-    desk: &mut D,
-    feed: &mut GoalFeed<'_>,
-) -> Result<Vec<u8>, Unconfirmed> {
-    let mut kept = Vec::new(alloc);
-    let mut buffer = [0u8; ROOM];
-    loop {
-        let n = match desk.read(Port::CertIn, &mut buffer) {
-            Ok(n) => n,
-            Err(_) => return Err(Unconfirmed::Failed),
-        };
-        if n == 0 {
-            match feed.end() {
-                Ok(_) => return Ok(kept),
-                Err(fault) => return Err(Unconfirmed::Fault(fault)),
-            }
-        }
-        match feed_goal_and_keep(feed, &mut kept, &buffer[..n]) {
-            Ok(()) => {}
-            Err(fault) => return Err(Unconfirmed::Fault(fault)),
-        }
-    }
-}
-
-// The certificate on its port, whole, where it is accepted; it is read up to its first fault.
-fn read_goal_kept<D: Desk>(
-    alloc: Global,
-    desk: &mut D,
-    problem: &Problem,
-    goal: u32,
-    bound: Option<u32>,
-) -> Result<Vec<u8>, Unconfirmed> {
-    match GoalFeed::new(alloc, problem, goal, bound) {
-        Ok(mut feed) => goal_kept_by(alloc, desk, &mut feed),
-        Err(_) => Err(Unconfirmed::Fault(CertFault::Memory)),
-    }
-}
-
-// The same for the problem of the only check of a script, whose goal is the term of this atom.
-fn upgrade_goal<D: Desk>(
-    alloc: Global,
-    desk: &mut D,
-    cert: &str,
-    out: &str,
-    problem: &Problem,
-    goal: u32,
-    bound: Option<u32>,
-) -> Status {
-    match desk.start(Port::CertIn, cert) {
-        Ok(()) => {}
-        Err(Denied::Failed) => return Status::InFailed,
-        Err(Denied::Memory) => return Status::NoMemory,
-    }
-    match read_goal_kept(alloc, desk, problem, goal, bound) {
-        Ok(kept) => write_upgraded(alloc, desk, out, &kept),
-        Err(Unconfirmed::Fault(fault)) => refuse(alloc, desk, fault),
-        Err(Unconfirmed::Failed) => Status::InFailed,
-    }
-}
-
-/// Checks the certificate on its port for the checks of a script, by its goal where there is one, and keeps it; where it is
-/// accepted, writes it under a name in the newest version.
-pub fn upgrade_read<D: Desk>(
-    alloc: Global,
-    desk: &mut D,
-    cert: &str,
-    out: &str,
-    read: &WithGoal,
-    bound: Option<u32>,
-) -> Status {
-    let Some(goal) = read.goal else {
-        return upgrade_session(alloc, desk, cert, out, &read.session, bound);
-    };
-    match read.session.first(alloc) {
-        Ok(problem) => upgrade_goal(alloc, desk, cert, out, &problem, goal, bound),
-        Err(_) => Status::NoMemory,
     }
 }
