@@ -1,5 +1,5 @@
 -- From a certificate on its port to the same in the newest version.
-use Rattle.std.proofs.Common.{◌≡◌, ◌<◌, ◌≤◌, ◌++◌, ℕ, List, [], ◌∷◌, Bool, Option, Ok, IfSome, length, take, refl, ap, sym, ◌∙◌, subst}
+use Rattle.std.proofs.Common.{◌≡◌, ◌<◌, ◌≤◌, ◌++◌, ℕ, List, [], ◌∷◌, Bool, Option, None, Ok, IfSome, length, take, refl, ap, sym, ◌∙◌, subst}
 use Rattle.std.specs.Prelude.{Vec}
 use Rattle.std.specs.declared.alloc.Global.{Global}
 use Rattle.desk.specs.declared.desk.Port.TheVariants.{CertIn}
@@ -83,21 +83,21 @@ module _ (ps : List (Problem × Bool)) (bound : Option ℕ) (name out : List ℕ
 
   pub upgraded_ends : (kept : List ℕ) (old first mid new : Sight) (status : Status) → first ≡ with_start CertIn name old → ReadsSome CertIn first mid
       → IfSome first.cert_in (IsKept ps bound kept) → RunEnds (IsUpgradeOf out kept) [] mid new status
-      → IfSome old.cert_in (λ cert. RunEnds (CanUpgrade ps bound name out cert) ((CertIn, name) ∷ []) old new status)
+      → IfSome old.cert_in (λ cert. RunEnds (CanUpgrade None ps bound name out cert) ((CertIn, name) ∷ []) old new status)
   upgraded_ends kept old first mid new status started some is ends =
-      over (IsKept ps bound kept) (λ (cert : List ℕ). RunEnds (CanUpgrade ps bound name out cert) ((CertIn, name) ∷ []) old new status) old.cert_in
+      over (IsKept ps bound kept) (λ (cert : List ℕ). RunEnds (CanUpgrade None ps bound name out cert) ((CertIn, name) ∷ []) old new status) old.cert_in
       (subst (λ (o : Option (List ℕ)). IfSome o (IsKept ps bound kept)) (ap (λ (d : Sight). d.cert_in) started) is)
       (λ cert h.
-      run_behind (IsUpgradeOf out cert) (CanUpgrade ps bound name out cert) (CertIn, name) [] old mid new status (after_cert_in name old first mid started some)
+      run_behind (IsUpgradeOf out cert) (CanUpgrade None ps bound name out cert) (CertIn, name) [] old mid new status (after_cert_in name old first mid started some)
       (λ tail can. (tail, upgrades-by cert (session_verdict ps bound cert) refl h.confirmed tail can, refl))
       (subst (λ (bs : List ℕ). RunEnds (IsUpgradeOf out bs) [] mid new status) h.same ends))
 
   pub refused_ends : (fault : CertFault) (old first mid new : Sight) (status : Status) → first ≡ with_start CertIn name old → ReadsSome CertIn first mid
       → IfSome first.cert_in (λ cert. IsRefusalOrMemory (session_verdict ps bound cert) fault) → RunEnds (IsRefusalOf fault) [] mid new status
-      → IfSome old.cert_in (λ cert. RunEnds (CanUpgrade ps bound name out cert) ((CertIn, name) ∷ []) old new status)
+      → IfSome old.cert_in (λ cert. RunEnds (CanUpgrade None ps bound name out cert) ((CertIn, name) ∷ []) old new status)
   refused_ends fault old first mid new status started some tells ends =
-      over (λ (cert : List ℕ). IsRefusalOrMemory (session_verdict ps bound cert) fault) (λ (cert : List ℕ). RunEnds (CanUpgrade ps bound name out cert) ((CertIn, name) ∷ []) old new status) old.cert_in
+      over (λ (cert : List ℕ). IsRefusalOrMemory (session_verdict ps bound cert) fault) (λ (cert : List ℕ). RunEnds (CanUpgrade None ps bound name out cert) ((CertIn, name) ∷ []) old new status) old.cert_in
       (subst (λ (o : Option (List ℕ)). IfSome o (λ cert. IsRefusalOrMemory (session_verdict ps bound cert) fault)) (ap (λ (d : Sight). d.cert_in) started) tells)
       (λ cert h.
-      run_behind (IsRefusalOf fault) (CanUpgrade ps bound name out cert) (CertIn, name) [] old mid new status (after_cert_in name old first mid started some)
+      run_behind (IsRefusalOf fault) (CanUpgrade None ps bound name out cert) (CertIn, name) [] old mid new status (after_cert_in name old first mid started some)
       (λ tail can. (tail, refuses-by cert (session_verdict ps bound cert) (can (session_verdict ps bound cert) h).0 tail (can (session_verdict ps bound cert) h).1, refl)) ends)

@@ -1,7 +1,0 @@
-use Rattle.dpoly.proofs.Minimizing.{book_of}
-use Rattle.dpoly.proofs.minimize.search_with.Goals as goal
-
-pub returns : goal.returns
-returns g c =
-    let h = c.in_ok-book.ensures in
-    book_of c.args.problem.now c.args.options.now c.in_ok-book.book h.problem h.options h.book h.reached h.verdict h.left
