@@ -9,7 +9,6 @@ use Rattle.cover_model.specs.State.{State, Loosenings}
 use Rattle.cover_model.specs.Rules.{Line, cut, is_stuck_atom}
 use Rattle.cover_model.specs.Honest.{not_shown, settled, is_wide, may_be_cut, is_middle_at, is_small, none_below}
 use Rattle.poly_graph.proofs.Bools.{not_both}
-use Rattle.ival.specs.BestViews.{axis_of}
 use Rattle.cover_model.proofs.Stuck.{some_atom_is_stuck}
 use Rattle.cover_rule.specs.declared.refusal.PatchRefusal.{PatchRefusal}
 use Rattle.cover_rule.specs.declared.refusal.PatchRefusal.TheVariants.{NotInside, NotStuck, NotHonest, Decided}
