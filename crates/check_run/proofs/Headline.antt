@@ -25,7 +25,7 @@ use Rattle.script_reading.specs.Session.{HasSession, asked_in}
 use Rattle.check_run.specs.declared.status.Status.{Status}
 use Rattle.check_run.specs.declared.status.Status.TheVariants.{Answered, CertRefused}
 use Rattle.script_reading.specs.Reader.{commands_of, HasProblem, IsBuilt}
-use Rattle.check_run.specs.Answer.{demo_text, is_answer_version, loosenings_of, solve_texts}
+use Rattle.check_run.specs.Answer.{demo_text, is_answer_version, loosenings_of}
 use Rattle.check_run.specs.Course.{Course, behind, appended}
 use Rattle.check_run.specs.Can.{CanSolve, CanCheck, CanUpgrade, CanUpgradeBy, CanUpgradeFor, CanUpgradeOfGoal, CanPlan, CanBy, OfProblem, OfSession, check_texts, goal_course, verdict_course}
 use Rattle.check_run.specs.Minimized.{CanMinimize, CanTellLeast, Cause, IsLeastAnswer, near, spent, narrow, no_limit, minimize_text}
@@ -72,7 +72,7 @@ solve-so words script cert_in parts old new (course, can, status, went) =
       answers = so.2;
       answer = went.answer ∙ ap (λ (c : Course). appended old.answer c.answer) can.2 ∙ ap (λ (c : Course). appended old.answer c.answer) so.3;
       say = values_again o.bound so.2.version (loosenings_of o) (asked_in o.bound script) so.1
-      (values_true o.bound script on.ps on.has so.0 (in_version so.2.version (loosenings_of o)) so.1 so.2.accepted);
+          (values_true o.bound script on.ps on.has so.0 (in_version so.2.version (loosenings_of o)) so.1 so.2.accepted);
     }
 
 -- of a script with one check
@@ -144,7 +144,7 @@ demo-so words script cert_in parts old new (course, can, status, went) =
       answers = so.2;
       answer = went.answer ∙ ap (λ (c : Course). appended old.answer c.answer) so.3;
       say = value_again words.options.bound so.2.version (loosenings_of words.options) (commands_of words.options.bound (demo_script words.seed words.size)) so.1
-      (value-so words.options.bound (demo_script words.seed words.size) can.0 so.0 (in_version so.2.version (loosenings_of words.options)) so.1 can.1 so.2.accepted);
+          (value-so words.options.bound (demo_script words.seed words.size) can.0 so.0 (in_version so.2.version (loosenings_of words.options)) so.1 can.1 so.2.accepted);
     }
 
 demo-unsat : (words : Demo) (script cert_in : List ℕ) (parts : List (List ℕ)) (old new : Sight) → IsShown (Some (demo words)) script cert_in parts old new Answered → IsTrueUnsat (Some (demo words)) script cert_in parts old new
@@ -168,9 +168,9 @@ demo-delta words script cert_in parts old new shows bytes atoms wrote =
     let point = demo_says_delta_sat bytes atoms (length made) (length so.problem.atoms) so.problem (loosenings_of o) o.budget so.value text in
     let s : Loosenings = in_version so.answers.version (loosenings_of o) in
     let accepts = subst (λ (v : Value). IsAccepted so.problem o.bound so.cert s v) point.1 so.answers.accepted in (
+      point.0,
       so.answers.version,
       so.answers.is_version,
-      point.0,
       record {
         point = delta-so o.bound made so.problem so.cert s point.0 so.built accepts;
         problem = so.problem;
@@ -346,7 +346,7 @@ minimize-told words script old new p has g is course (inl (cert, left, answers, 
       written = written ∙ ap (λ (c : Course). appended old.cert_out c.cert) e;
       answer = answer ∙ ap (λ (c : Course). appended old.answer c.answer) e;
       say = value_again words.options.bound answers.version (loosenings_of words.options) (commands_of words.options.bound script) (left_open left)
-      (value-so words.options.bound script p cert (in_version answers.version (loosenings_of words.options)) (left_open left) has.built answers.accepted);
+          (value-so words.options.bound script p cert (in_version answers.version (loosenings_of words.options)) (left_open left) has.built answers.accepted);
     })
 minimize-told words script old new p has g is course (inr (cert, cause, x, answers, e)) written answer =
     inl (least-so words script old new p has g is cert cause x answers (written ∙ ap (λ (c : Course). appended old.cert_out c.cert) e) (answer ∙ ap (λ (c : Course). appended old.answer c.answer) e))
