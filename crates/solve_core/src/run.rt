@@ -281,9 +281,9 @@ fn may_go_over(book: &Book, problem: &Problem, options: &Options) -> bool
 fn raised(book: Book) -> Book
     ensures { result ≡ raised book }
 {
-    let mut book = book;
-    book.raise();
-    book
+    let mut later = book;
+    later.raise();
+    later
 }
 
 // Searches on from a book of the problem. Where it is of version 2, the options are of version 5 and there is a choice of
