@@ -1,5 +1,5 @@
 -- The width that a plan names is enough for `solve`.
-use Rattle.std.proofs.Common.{◌≡◌, ◌++◌, inl, inr, ℕ, zero, suc, ◌+◌, List, [], ◌∷◌, Bool, Option, Some, None, length, refl, ap, sym, subst, ◌∙◌, ap₂, arith, append-nil}
+use Rattle.std.proofs.Common.{◌≡◌, ◌++◌, inl, inr, ℕ, zero, suc, ◌+◌, List, [], ◌∷◌, Bool, Option, Some, None, refl, ap, sym, subst, ◌∙◌, ap₂, arith, append-nil}
 use Rattle.std.specs.Prelude.{slice_get}
 use Rattle.std.proofs.lemmas.Option.{none-some}
 use Rattle.command_line.specs.declared.request.Options.{Options}
@@ -16,7 +16,7 @@ use Rattle.cert_model.specs.Session.{AreAccepted}
 use Rattle.script_fault.specs.declared.fault.ScriptFault.{ScriptFault}
 use Rattle.check_run.specs.ScriptFaults.{fault_text}
 use Rattle.script_reading.specs.Faults.{session_fault}
-use Rattle.smt_script.specs.Levels.{Asked, checks_of}
+use Rattle.smt_script.specs.Levels.{Asked}
 use Rattle.script_reading.specs.Session.{AreBuilt, HasSession, asked_in, carried_in}
 use Rattle.check_run.specs.Answer.{loosenings_of, solve_texts, AreAnswers, AreFoundFrom, IsFoundPart}
 use Rattle.check_run.specs.Course.{Course}

@@ -25,7 +25,7 @@ use Rattle.script_reading.specs.Session.{HasSession, asked_in}
 use Rattle.check_run.specs.declared.status.Status.{Status}
 use Rattle.check_run.specs.declared.status.Status.TheVariants.{Answered, CertRefused}
 use Rattle.script_reading.specs.Reader.{commands_of, HasProblem, IsBuilt}
-use Rattle.check_run.specs.Answer.{demo_text, is_answer_version, loosenings_of, solve_texts}
+use Rattle.check_run.specs.Answer.{demo_text, is_answer_version, loosenings_of}
 use Rattle.check_run.specs.Course.{Course, behind, appended}
 use Rattle.check_run.specs.Can.{CanSolve, CanCheck, CanUpgrade, CanUpgradeBy, CanUpgradeFor, CanUpgradeOfGoal, CanPlan, CanBy, OfProblem, OfSession, check_texts, goal_course, verdict_course}
 use Rattle.check_run.specs.Minimized.{CanMinimize, CanTellLeast, Cause, IsLeastAnswer, near, spent, narrow, no_limit, minimize_text}
@@ -168,9 +168,9 @@ demo-delta words script cert_in parts old new shows bytes atoms wrote =
     let point = demo_says_delta_sat bytes atoms (length made) (length so.problem.atoms) so.problem (loosenings_of o) o.budget so.value text in
     let s : Loosenings = in_version so.answers.version (loosenings_of o) in
     let accepts = subst (λ (v : Value). IsAccepted so.problem o.bound so.cert s v) point.1 so.answers.accepted in (
+      point.0,
       so.answers.version,
       so.answers.is_version,
-      point.0,
       record {
         point = delta-so o.bound made so.problem so.cert s point.0 so.built accepts;
         problem = so.problem;

@@ -283,8 +283,8 @@ IsTrueDeltaSat (Some (join words)) script cert_in parts old new =
     (s : Loosenings) × (space : Space) × IsWritten (check_text s (at_point space)) old new × IsWrittenPoint words.bound script s space old new
 IsTrueDeltaSat (Some (demo words)) script cert_in parts old new =
     (bytes atoms : ℕ) → IsWritten (demo_text bytes atoms delta_sat_word) old new →
-    (v : ℕ) × IsTrue (is_lines_version v)
-    × ((space : Space) × IsWrittenPoint words.options.bound (demo_script words.seed words.size) (in_version v (loosenings_of words.options)) space old new)
+    (space : Space) × (v : ℕ) × IsTrue (is_lines_version v)
+    × IsWrittenPoint words.options.bound (demo_script words.seed words.size) (in_version v (loosenings_of words.options)) space old new
 IsTrueDeltaSat _ script cert_in parts old new = Unit {0}
 
 -- ---- certificates that are refused, or written again

@@ -1,5 +1,5 @@
 -- What the version in which a search ended changes: what shows the lower bound is of it, and the next search begins in it.
-use Rattle.std.proofs.Common.{◌≡◌, ◌⊎◌, inl, inr, ℕ, Bool, true, false, cond, Option, refl, ap, sym, subst, ◌∙◌}
+use Rattle.std.proofs.Common.{◌≡◌, inl, inr, ℕ, Bool, true, false, cond, Option, refl, ap, sym, subst, ◌∙◌}
 use Rattle.std.specs.Prelude.{nat_le, option_map}
 use Rattle.dyadic.specs.Rounding.{Ext, ext_at_most, finite}
 use Rattle.dyadic.specs.Views.{dyadic_of, ext_of}
@@ -8,7 +8,6 @@ use Rattle.poly_graph.specs.ProblemViews.{Parts, problem_of}
 use Rattle.cover_data.specs.declared.margins.Options.{Options}
 use Rattle.cover_data.specs.Margins.{margins_in, options_in}
 use Rattle.cert_model.specs.Least.{lower_end}
-use Rattle.cover_book.specs.Model.{BookModel}
 use Rattle.goal_limit.specs.Lows.{root_low}
 use Rattle.goal_limit.specs.Tries.{Span, is_between}
 use Rattle.least_search.specs.declared.aim.Aim.{Aim}

@@ -1,6 +1,6 @@
 use Rattle.std.proofs.Common.{◌∙◌, ap, subst, sym}
 use Rattle.cover_data.specs.declared.margins.Options.{Options}
-use Rattle.least_search.specs.Found.{AreBoundsOf, AreFar, IsNextSearch, IsVersionAfter, span_of}
+use Rattle.least_search.specs.Found.{AreBoundsOf, IsNextSearch, IsVersionAfter}
 use Rattle.least_search.specs.declared.bounds.Bounds.{Bounds}
 use Rattle.least_search.proofs.Searches.{planned_bounds, planned_far, planned_search}
 use Rattle.least_search.proofs.Versions.{bounds_over, far_over, search_over}
