@@ -11,43 +11,20 @@ use dyadic::two_to_minus;
 use floats::approximate;
 use std::alloc::{AllocError, Global};
 
-// Which axis is named: the one of most worth. A defined axis is the last one of an equation that gives it by the others; a
-// thin one has a far smaller side than the widest.
-#[derive(Clone, Copy)]
-enum Policy {
-    // By smear: its share in what the atoms may change by.
-    Smear,
-    // The same, with axes that are not thin before others.
-    EvenSmear,
-    // The same, with axes that are neither thin nor defined before others.
-    FreeSmear,
-    // By its side, with axes that are not defined before others.
-    FreeSide,
-}
-
-const POLICY: Policy = Policy::Smear;
-
 /// A thin axis has less than this share of the widest side.
 const THIN: f64 = 0.125;
 
-/// Where some axes come before others, the worth of these counts so much.
-const OF_OTHERS: f64 = 0.001;
+/// Axes that are thin, or that an equation defines, come behind the others: their share counts so much.
+const BEHIND: f64 = 0.001;
 
-// The worth of an axis that comes before others or is one of these.
-fn rated(is_before: bool, worth: f64) -> f64 {
-    if is_before { worth } else { OF_OTHERS * worth }
-}
-
-impl Policy {
-    // The worth of the axis, where this is the widest side; 0 where nothing is expected of a cut.
-    fn worth(self, axis: Prospect, widest: f64) -> f64 {
-        let is_thin = axis.side < THIN * widest;
-        match self {
-            Policy::Smear => axis.share,
-            Policy::EvenSmear => rated(!is_thin, axis.share),
-            Policy::FreeSmear => rated(!is_thin && !axis.is_defined, axis.share),
-            Policy::FreeSide => rated(!axis.is_defined, axis.side),
-        }
+// What a cut of the axis is worth, where this is the widest side: the sum of its shares in what each atom may change by
+// (relative smear; Trombettoni, Araya, Neveu, Chabert 2011). An axis that an equation defines follows the others, and one
+// far thinner than the widest gains little. 0 where nothing is expected of a cut.
+fn worth(axis: Prospect, widest: f64) -> f64 {
+    if axis.is_defined || axis.side < THIN * widest {
+        BEHIND * axis.share
+    } else {
+        axis.share
     }
 }
 
@@ -68,16 +45,16 @@ fn best_axis(prospects: &[Prospect], least: f64) -> Option<u32> {
     let mut best = None;
     let mut most = 0.0;
     for axis in 0..prospects.len() {
-        let worth = POLICY.worth(prospects[axis], widest);
-        if prospects[axis].side > least && worth > most {
+        let gain = worth(prospects[axis], widest);
+        if prospects[axis].side > least && gain > most {
             best = Some(axis);
-            most = worth;
+            most = gain;
         }
     }
     u32::try_from(best?).ok()
 }
 
-// The axis that the policy names, if it names one.
+// The axis that is named, if one is.
 fn named_axis(alloc: Global, patch: &Patch) -> Result<Option<u32>, AllocError> {
     let prospects = prospects(alloc, patch)?;
     let least = approximate(two_to_minus(patch.margins().least_bits));
