@@ -1,5 +1,5 @@
 -- From what a search for a least value finds to the end of a run.
-use Rattle.std.proofs.Common.{◌≡◌, ◌≢◌, ◌<◌, inl, inr, ℕ, List, [], Option, Some, refl, ap, sym, subst, ◌∙◌, arith}
+use Rattle.std.proofs.Common.{◌≡◌, ◌≢◌, inl, inr, ℕ, List, [], Option, Some, refl, ap, sym, subst, ◌∙◌, arith}
 use Rattle.std.specs.Prelude.{option_map}
 use Rattle.desk.specs.Sight.{Sight}
 use Rattle.command_line.specs.Words.{Minimize, AreOptions}
@@ -29,11 +29,8 @@ use Rattle.cover_book.specs.Limits.{IsWithinLimits}
 use Rattle.cover_book.specs.Model.{BookModel, opening}
 use Rattle.cover_book.specs.Verdict.{verdict_of}
 use Rattle.cover_book.specs.declared.verdict.BookVerdict.TheVariants.{NotYet}
-use Rattle.solve_core.specs.Reaches.{IsSearched, Reaches}
-use Rattle.solve_core.specs.Solved.{IsInVersionOf}
-use Rattle.solve_core.proofs.Reached.{own_version, reaches_same, searched_same}
 use Rattle.goal_limit.specs.Tries.{Span}
-use Rattle.least_search.specs.Found.{bound_of, low_end, IsBookOf, IsClosed, IsFirst, IsFound, IsLower, IsSearchVersion}
+use Rattle.least_search.specs.Found.{bound_of, low_end, IsBookOf, IsClosed, IsFirst, IsFound, IsLower, IsSearchVersion, IsVersionAfter}
 use Rattle.least_search.specs.declared.found.Found.{Found}
 use Rattle.least_search.specs.declared.found.Lower.{Lower}
 use Rattle.least_search.specs.declared.found.Lower.TheVariants as shown
@@ -54,37 +51,22 @@ use Rattle.dpoly.proofs.Solving.{written}
 
 -- ---- the searches
 
--- of one that began in the version in which it ended
-pub book_of_latest : (q : Parts) (o : cover.Options) (b : BookModel) → b.problem ≡ q → b.options ≡ o → IsBook b → Reaches (opening q o) b → verdict_of b ≢ NotYet → LeavesDue b → IsBookOf q o b
-book_of_latest q o b problem options book reached verdict left =
-    let same = reaches_same reached in
-    record {
-      problem = problem;
-      version = inl (ap (λ (x : cover.Options). x.version) options);
-      options = own_version b.options o o.version options;
-      alone = same.2;
-      root = same.3 ∙ ap (λ (r : Parts). root_state (problem_of r)) (sym same.0);
-      book = book;
-      verdict = verdict;
-      left = left;
-    }
-
--- of one that began in version 2
-pub book_of_first : (q : Parts) (o : cover.Options) → AreMargins (margins_of o) → o.version < 5 → (b : BookModel) → b.problem ≡ q → IsInVersionOf (options_in 5 o) 2 b → IsBook b → IsSearched (opening q (options_in 2 o)) b →
-    verdict_of b ≢ NotYet → LeavesDue b → IsBookOf q o b
-book_of_first q o m low b problem is book searched verdict left =
-    let same = searched_same searched in
-    let two : o.version ≡ 2 = elim m.version_is [ inl e ↦ e | inr e ↦ absurd (omega (arith, e, low)) ] in
-    record {
-      problem = problem;
-      version = elim is.version [ inl e ↦ inl (e ∙ sym two) | inr e ↦ inr e ];
-      options = is.options;
-      alone = same.2;
-      root = same.3 ∙ ap (λ (r : Parts). root_state (problem_of r)) (sym same.0);
-      book = book;
-      verdict = verdict;
-      left = left;
-    }
+-- of one that was searched on from as it opened
+pub book_of : (q : Parts) (o : cover.Options) (first b : BookModel) → first ≡ opening q o → b.problem ≡ first.problem → IsVersionAfter first.options.version b.options.version → b.options ≡ options_in b.options.version first.options →
+    b.kept ≡ first.kept → b.root ≡ first.root → IsBook b → verdict_of b ≢ NotYet → LeavesDue b → IsBookOf q o b
+book_of q o first b opens problem version options kept root book verdict left = record {
+  problem = same-problem;
+  version = subst (λ (x : BookModel). IsVersionAfter x.options.version b.options.version) opens version;
+  options = options ∙ ap (λ (x : BookModel). options_in b.options.version x.options) opens;
+  alone = kept ∙ ap (λ (x : BookModel). x.kept) opens;
+  root = root ∙ ap (λ (x : BookModel). x.root) opens ∙ ap (λ (r : Parts). root_state (problem_of r)) (sym same-problem);
+  book = book;
+  verdict = verdict;
+  left = left;
+}
+  where
+    same-problem : b.problem ≡ q
+    same-problem = problem ∙ ap (λ (x : BookModel). x.problem) opens
 
 -- margins and limits are the same in another version
 margins_again : (o : cover.Options) (v : ℕ) → IsSearchVersion v → AreMargins (margins_of o) → AreMargins (margins_of (options_in v o))

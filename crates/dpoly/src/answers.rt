@@ -24,8 +24,8 @@ pub struct SearchAnswer {
     pub text: Vec<u8>,
 }
 
-/// The latest version of the format that a search may write.
-pub const LATEST: u32 = 5;
+// The latest version of the format that a search may write.
+const LATEST: u32 = 5;
 
 /// What the words ask of a search.
 pub fn search_options(options: &Options) -> cover_rule::Options

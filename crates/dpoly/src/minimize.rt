@@ -12,7 +12,7 @@ ghost use Rattle.check_run.specs.Run.{MinimizeHasCause, SameIn};
 ghost use Rattle.check_run.specs.Script.{IsAtomOf, IsWithin};
 ghost use Rattle.dpoly.specs.Minimize.{IsAcceptedFor, IsFoundAnswer, IsMinimizeAnswer, first_options, told_cause};
 
-use crate::answers::{LATEST, SearchAnswer, search_options, tell_left};
+use crate::answers::{SearchAnswer, search_options, tell_left};
 use crate::leaf::Engine;
 use check_run::{Cause, GoalBounds, Status, end_no_goal, finish, goal_bounds};
 use command_line::{MinimizeWords, Options as Asked};
@@ -22,7 +22,7 @@ use desk::Desk;
 use least_search::{Ending, Found, Least, Lower, minimize};
 use least_text::{write_limited, write_over};
 use poly_graph::Problem;
-use solve_core::{Gate, search_on, solve};
+use solve_core::{Gate, search_on};
 use std::alloc::{AllocError, Global};
 use std::sync::Wait;
 use std::thread::Threads;
@@ -37,38 +37,7 @@ fn first_options(options: &Asked) -> Options
     search_options(options).in_version(FIRST)
 }
 
-// The book that a search for a problem in the version of these options leaves.
-fn search_latest<R: Threads + Wait + Sync, G: Gate + Sync>(
-    engine: &Engine<'_, R, G>,
-    alloc: Global,
-    problem: &Problem,
-    options: &Options,
-) -> Result<Book, AllocError>
-    requires { IsWithinLimits problem.now options.now }
-    ensures { IfOk result (IsBookOf problem.now options.now) }
-{
-    let book = Book::new(alloc, problem.try_clone(alloc)?, *options)?;
-    let book = search_on(engine.rt, alloc, book, engine.gate)?;
-    Ok(book)
-}
-
-// The book that a search for a problem leaves which may go over to the latest version.
-fn search_first<R: Threads + Wait + Sync, G: Gate + Sync>(
-    engine: &Engine<'_, R, G>,
-    alloc: Global,
-    problem: &Problem,
-    options: &Options,
-) -> Result<Book, AllocError>
-    requires limits { IsWithinLimits problem.now options.now }
-    requires version { options.now.version < 5 }
-    ensures { IfOk result (IsBookOf problem.now options.now) }
-{
-    let latest = options.in_version(LATEST);
-    let book = solve(engine.rt, alloc, problem, &latest, engine.gate)?;
-    Ok(book)
-}
-
-// The book that a search for a problem leaves, which begins in the version of these options.
+// The book that a search for a problem with these options leaves, which begins in their version.
 fn search_with<R: Threads + Wait + Sync, G: Gate + Sync>(
     engine: &Engine<'_, R, G>,
     alloc: Global,
@@ -78,11 +47,9 @@ fn search_with<R: Threads + Wait + Sync, G: Gate + Sync>(
     requires { IsWithinLimits problem.now options.now }
     ensures { IfOk result (IsBookOf problem.now options.now) }
 {
-    if options.version >= LATEST {
-        search_latest(engine, alloc, problem, options)
-    } else {
-        search_first(engine, alloc, problem, options)
-    }
+    let opened = Book::new(alloc, problem.try_clone(alloc)?, *options)?;
+    let book = search_on(engine.rt, alloc, opened, engine.gate)?;
+    Ok(book)
 }
 
 // What a search for the least value finds.
