@@ -1,5 +1,5 @@
 // The search: by many workers on one book, and then by the caller alone.
-ghost use Rattle.std.specs.Prelude.{◌≡◌, ◌≢◌, ◌<◌, ◌≤◌, ◌-◌, true, false, cond, nat_le, length, map, All, IfOk, OnOk, []};
+ghost use Rattle.std.specs.Prelude.{◌≡◌, ◌≢◌, ◌⊎◌, ◌<◌, ◌≤◌, ◌-◌, true, false, cond, nat_le, length, map, All, IfOk, OnOk, []};
 ghost use Rattle.poly_graph.specs.ProblemViews.{problem_of};
 ghost use Rattle.problem_session.specs.Session.{problems_of};
 ghost use Rattle.cover_model.specs.Carried.{GoesOnFrom};
@@ -34,8 +34,11 @@ const MOST_WORKERS: u32 = 64;
 // Threads start when so many boxes wait.
 const ENOUGH: usize = 2;
 
-// A search that may go over to version 5 does so once it has made more branches than these.
+// A search that may go over to the latest version does so once it has made more branches than these.
 const FIRST_BRANCHES: u32 = 64;
+
+// The latest version of the format.
+const LATEST: u32 = 5;
 
 // Until when the caller works alone.
 #[derive(Clone, Copy)]
@@ -318,29 +321,33 @@ fn search_in_versions<R: Threads + Wait + Sync, G: Gate + Sync>(
     search_from(rt, alloc, raised(begun), problem, options, gate)
 }
 
-/// Searches on from a book as it stands, by its own options and in its version.
+/// Searches on from a book as it stands, by its own options but for the version: where the book is of version 2 and more
+/// than one axis is a Real one, the caller works alone at first, and once the book has more than 64 branches, the search
+/// goes on in version 5.
 pub fn search_on<R: Threads + Wait + Sync, G: Gate + Sync>(
     rt: &R,
     alloc: Global,
     book: Book,
     gate: &G,
 ) -> Result<Book, AllocError>
-    // The book stays one of the same problem, options, first lemmas and first state, and calls on it lead to what is
-    // answered.
+    // The book is one of the same problem, options, first lemmas and first state, in its version or in version 5, and
+    // calls on it lead to what is answered, or to a book that goes over to version 5 and leads to it.
     ensures problem { IfOk result (λ b. b.problem ≡ book.problem) }
-    ensures options { IfOk result (λ b. b.options ≡ book.options) }
+    ensures options { IfOk result (λ b. b.options ≡ options_in b.options.version book.options) }
+    ensures version { let v = book.options.version in
+        IfOk result (λ b. (b.options.version ≡ v) ⊎ (b.options.version ≡ 5)) }
     ensures kept { IfOk result (λ b. b.kept ≡ book.kept) }
     ensures root { IfOk result (λ b. b.root ≡ book.root) }
     ensures book { IfOk result (λ b. IsBook b) }
-    ensures reached { IfOk result (λ b. Reaches book b) }
+    ensures searched { IfOk result (IsSearched book) }
 
     // It has an answer.
     ensures verdict { IfOk result (λ b. verdict_of b ≢ verdict.NotYet) }
     ensures left { IfOk result (λ b. LeavesDue b) }
 {
     let problem = book.problem().try_clone(alloc)?;
-    let options = *book.options();
-    search_from(rt, alloc, book, &problem, &options, gate)
+    let options = book.options().in_version(LATEST);
+    search_in_versions(rt, alloc, book, &problem, &options, gate)
 }
 
 /// Searches for a point of the problem, or for a cover of its declared box, from the opening book on. Where the options
