@@ -1,12 +1,12 @@
 -- A state that was searched on by a book of its own.
-use Rattle.std.proofs.Common.{◌≡◌, inl, inr, ℕ, zero, suc, ◌+◌, ◌≤◌, List, [], ◌∷◌, ◌++◌, map, length, All, Bool, true, false, Option, Some, None, IsTrue, true≢false, refl, ap, sym, ◌∙◌, subst, arith}
+use Rattle.std.proofs.Common.{◌≡◌, inl, inr, ℕ, suc, ◌+◌, ◌≤◌, List, [], ◌∷◌, ◌++◌, length, All, true, Option, Some, None, true≢false, refl, ap, sym, ◌∙◌, subst, arith}
 use Rattle.std.specs.Prelude.{slice_get, Vec}
 use Rattle.std.specs.Global.{Global}
 use Rattle.std.specs.List.{list_any}
 use Rattle.std.specs.Option.{IfSome}
 use Rattle.poly_graph.specs.ProblemViews.{Parts, problem_of}
-use Rattle.cover_model.specs.State.{State, Loosenings}
-use Rattle.cover_model.specs.Derivation.{Tree, Lawful, tree_lines}
+use Rattle.cover_model.specs.State.{State}
+use Rattle.cover_model.specs.Derivation.{Tree, Lawful}
 use Rattle.cover_model.specs.Fits.{IsShownAt}
 use Rattle.cover_data.specs.declared.margins.Options.{Options}
 use Rattle.cover_data.specs.declared.stored.StoredState.{StoredState}
@@ -19,18 +19,17 @@ use Rattle.cert_model.specs.Written.{AreLemmaTrees, IsHonestTree, LemmaTree, Nam
 use Rattle.cover_book.specs.Keeps.{IsBook, IsKeptLemma}
 use Rattle.cover_book.specs.Laws.{IsTreeOfBook}
 use Rattle.cover_book.specs.Left.{LeavesDue}
-use Rattle.cover_book.specs.Model.{BookModel, NodeModel, live_node, crossed_node, closed_node, parted_node, stuck_node, opening_at, lemma_states_in, problem_in, loosenings_in}
-use Rattle.cover_book.specs.Tree.{cover_lemmas, lemma_trees}
+use Rattle.cover_book.specs.Model.{BookModel, NodeModel, live_node, crossed_node, closed_node, parted_node, stuck_node, lemma_states_in, problem_in, loosenings_in}
+use Rattle.cover_book.specs.Tree.{lemma_trees}
 use Rattle.cover_book.specs.Verdict.{is_live}
 use Rattle.cover_book.proofs.Carries.{all_lemmas}
 use Rattle.cover_book.proofs.Kept.{same_states}
 use Rattle.cover_book.proofs.Meaning.{tree_is_honest}
 use Rattle.cert_text.specs.Lines.{HasAppended}
 use Rattle.cert_text.proofs.Leftovers.{left_tells_of_nodes}
-use Rattle.cert_resumed.specs.Resumed.{IsGraft}
 use Rattle.cert_resume.specs.Answer.{TellsOfOwn}
 use Rattle.cert_resume.specs.Calls.{IsFoundPoint, IsOpened, IsPointNoted, with_budget}
-use Rattle.cert_resume.specs.Going.{HasNoted, HasSearched, HasLearned, MayGoOn, MayOpen, options_now}
+use Rattle.cert_resume.specs.Going.{HasNoted, HasSearched, MayGoOn, options_now}
 use Rattle.cert_resume.specs.Request.{IsVersionOn}
 use Rattle.cert_resume.specs.Searched.{IsSearchedOn}
 use Rattle.cert_resume.specs.declared.going.Going.{Going}

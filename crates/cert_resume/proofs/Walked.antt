@@ -1,5 +1,5 @@
 -- The walk over the lines of a main tree.
-use Rattle.std.proofs.Common.{◌≡◌, inl, ℕ, zero, suc, ◌+◌, ◌<◌, ◌≤◌, List, [], ◌∷◌, ◌++◌, map, take, drop, get_or, length, length-append, append_assoc, Bool, true, false, cond, All, refl, ap, sym, ◌∙◌, subst, arith}
+use Rattle.std.proofs.Common.{◌≡◌, inl, ℕ, zero, suc, ◌+◌, ◌<◌, ◌≤◌, List, [], ◌∷◌, ◌++◌, map, take, drop, get_or, length, length-append, append_assoc, Bool, true, false, cond, refl, ap, sym, ◌∙◌, subst, arith}
 use Rattle.std.specs.Prelude.{Vec}
 use Rattle.std.specs.Global.{Global}
 use Rattle.std.specs.List.{AllByRecursion}
@@ -15,11 +15,11 @@ use Rattle.cover_model.specs.Derivation.{leaf}
 use Rattle.cover_data.specs.declared.margins.Options.{Options}
 use Rattle.interval_model.specs.Space.{Space}
 use Rattle.cover_data.specs.Margins.{margins_of, loosenings_of, options_in}
-use Rattle.cert_read.specs.CertLine.{CertLine, rule_line}
+use Rattle.cert_read.specs.CertLine.{rule_line}
 use Rattle.cert_read.specs.LineText.{IsSpelled}
 use Rattle.cert_model.specs.Accepted.{certificate_text}
 use Rattle.cert_model.specs.Due.{Standing}
-use Rattle.cert_model.specs.Written.{LemmaTree, lemma_states, left_standing, rule_lines}
+use Rattle.cert_model.specs.Written.{lemma_states, left_standing, rule_lines}
 use Rattle.cert_resumed.specs.Resumed.{IsGraft, Share, each_left, others, is_leaving, is_own, leaving_lines}
 use Rattle.cert_resume.specs.Calls.{HasWalked, IsFoundPoint}
 use Rattle.cert_resume.specs.Going.{CanBeResumed, HasGone, HasPassed, IsBegun, IsSearchable, IsWithinRoot, options_now, standings}

@@ -1,15 +1,15 @@
 -- What is known of a base, and what a cover that goes on from it is.
-use Rattle.std.proofs.Common.{◌≡◌, inl, inr, ℕ, zero, suc, ◌+◌, ◌≤◌, List, [], ◌∷◌, ◌++◌, map, length, All, Bool, true, false, cond, nat_le, Option, None, IsTrue, refl, ap, ap₂, sym, ◌∙◌, subst, arith}
+use Rattle.std.proofs.Common.{◌≡◌, inl, inr, ℕ, ◌≤◌, List, [], ◌∷◌, ◌++◌, map, length, All, Bool, true, false, cond, nat_le, refl, ap, ap₂, sym, ◌∙◌, subst, arith}
 use Rattle.std.specs.List.{AllByRecursion}
 use Rattle.std.proofs.lemmas.Bool.{leb-true}
 use Rattle.std.proofs.lemmas.List.{length-map}
-use Rattle.std.proofs.lemmas.List.Elements.{All-map, All-weaker, All-from_recursion, recursion_from_All}
+use Rattle.std.proofs.lemmas.List.Elements.{All-map, All-weaker}
 use Rattle.dyadic.proofs.Equal.{both_true}
 use Rattle.interval_model.specs.Space.{Space}
-use Rattle.poly_graph.specs.Problem.{Problem, IsProblem, first_crossed}
+use Rattle.poly_graph.specs.Problem.{Problem}
 use Rattle.poly_graph.specs.ProblemViews.{Parts, IsWhole, problem_of}
 use Rattle.cover_line.specs.Views.{line_of as rule_of}
-use Rattle.cover_model.specs.State.{State, Loosenings, IsLemma, in_version, root_state, covers}
+use Rattle.cover_model.specs.State.{State, Loosenings, IsLemma, in_version}
 use Rattle.cover_model.specs.Fits.{FitsProblem}
 use Rattle.cover_model.specs.Rules.{Line}
 use Rattle.cover_model.specs.Derivation.{leaf}
@@ -21,20 +21,20 @@ use Rattle.cert_read.specs.CertLine.{CertLine, version, margin, delta, bound, co
 use Rattle.cert_read.specs.Views.{line_of}
 use Rattle.cert_read.specs.LineText.{IsCount, IsSpelled}
 use Rattle.cert_model.specs.Accepted.{IsAccepted, certificate_text, loosenings_fit, most_bytes, most_lemmas}
-use Rattle.cert_model.specs.Due.{Standing, at_point, is_version, left_open}
+use Rattle.cert_model.specs.Due.{Standing, is_version, left_open}
 use Rattle.cert_model.specs.Least.{is_lines_version}
 use Rattle.cert_model.proofs.Header.{version_limits}
 use Rattle.cert_text.specs.Means.{IsPointCertificate}
 use Rattle.cert_model.specs.Written.{AreLemmaTrees, LemmaTree, lemma_states, lemmas_lines, left_standing, rule_lines}
-use Rattle.cert_base.specs.Base.{IsBase, IsBaseOf}
+use Rattle.cert_base.specs.Base.{IsBase}
 use Rattle.cert_base.specs.declared.base.Base.{Base}
-use Rattle.cert_resumed.specs.Resumed.{IsResumption, IsVersionBehind, grafted, joined, others, own_left, resumed_lines, resumed_text, AreGrafts, AreShared, CoverRead, IsCoverRead, IsGraft, Share, each_left, all_lemmas, leaving_lines, read_lines}
+use Rattle.cert_resumed.specs.Resumed.{IsResumption, IsVersionBehind, grafted, joined, others, own_left, resumed_lines, resumed_text, AreGrafts, AreShared, CoverRead, IsGraft, Share, each_left, all_lemmas, leaving_lines, read_lines}
 use Rattle.cert_resumed.proofs.Leaving.{read_is_sound}
 use Rattle.cert_resumed.proofs.LemmaStates.{lemmas_fit}
 use Rattle.cert_resumed.proofs.Stays.{left_stays}
 use Rattle.cert_resumed.proofs.Within.{left_fits}
 use Rattle.cert_resume.specs.Calls.{IsFoundPoint}
-use Rattle.cert_resume.specs.Going.{CanBeResumed, HasGone, IsBegun, IsBegunWith, IsWithinRoot, MayOpen, options_now, standings}
+use Rattle.cert_resume.specs.Going.{CanBeResumed, HasGone, IsBegun, IsBegunWith, IsWithinRoot, options_now, standings}
 use Rattle.cert_resume.specs.Answer.{IsResumedCover, IsResumedPoint, TellsOfOwn}
 use Rattle.cert_resume.specs.Request.{IsVersionOn, first_version, options_of, share_of}
 use Rattle.cert_resume.proofs.Later.{IsWritten, searchable_in, version_on_later, version_on_written}

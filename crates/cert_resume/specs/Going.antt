@@ -1,13 +1,11 @@
 -- How far a cover is gone through.
-use Rattle.std.specs.Prelude.{◌≡◌, ℕ, suc, ◌+◌, ◌≤◌, List, [], ◌∷◌, ◌++◌, All, Bool, true, false, Option, None, IsTrue, length, map, sum_by}
+use Rattle.std.specs.Prelude.{◌≡◌, ℕ, suc, ◌+◌, ◌≤◌, List, [], ◌∷◌, ◌++◌, All, Bool, true, false, None, IsTrue, length, sum_by}
 use Rattle.std.specs.Prelude.{Vec}
 use Rattle.std.specs.Global.{Global}
 use Rattle.std.specs.List.{AllByRecursion}
-use Rattle.poly_graph.specs.Problem.{Problem, first_crossed}
+use Rattle.poly_graph.specs.Problem.{first_crossed}
 use Rattle.poly_graph.specs.ProblemViews.{Parts, problem_of}
-use Rattle.cover_line.specs.declared.rule.Rule.{Rule}
-use Rattle.cover_line.specs.Views as rules
-use Rattle.cover_model.specs.State.{State, Loosenings, root_state, covers}
+use Rattle.cover_model.specs.State.{State, root_state, covers}
 use Rattle.cover_model.specs.Fits.{FitsProblem}
 use Rattle.cover_model.specs.Rules.{Line}
 use Rattle.cover_model.specs.Derivation.{Tree, leaf, tree_lines}
@@ -19,14 +17,14 @@ use Rattle.cover_book.specs.Laws.{IsTreeOfBook}
 use Rattle.cover_book.specs.Limits.{IsWithinLimits}
 use Rattle.cover_book.specs.Model.{BookModel}
 use Rattle.cover_book.specs.Tree.{lemma_trees}
-use Rattle.cert_read.specs.CertLine.{CertLine, rule_line}
+use Rattle.cert_read.specs.CertLine.{rule_line}
 use Rattle.cert_read.specs.LineText.{IsSpelled}
 use Rattle.cert_model.specs.Accepted.{certificate_text, most_lemmas}
 use Rattle.cert_model.specs.AnswerText.{has_open}
 use Rattle.cert_model.specs.Due.{Standing}
 use Rattle.cert_model.specs.Written.{AreLemmaTrees, IsHonestTree, LemmaTree, lemma_states, lemmas_lines, left_standing, rule_lines, tree_branches}
 use Rattle.cert_text.specs.Lines.{HasAppended}
-use Rattle.cert_resumed.specs.Resumed.{AreGrafts, AreShared, IsGraft, Share, each_left, grafted, is_own, leaving_lines, others, own_left}
+use Rattle.cert_resumed.specs.Resumed.{AreGrafts, AreShared, IsGraft, Share, each_left, grafted, leaving_lines, others, own_left}
 use Rattle.cert_resume.specs.Answer.{TellsOfOwn}
 use Rattle.cert_resume.specs.Request.{IsVersionOn}
 use Rattle.cert_resume.specs.declared.answer.Own.{Own}

@@ -18,7 +18,6 @@ returns c =
       main = f.3;
       learned = c.in_ok-append_lemmas_of.ensures;
       version = ap (λ (o : Options). o.version) c.options.ensures.options;
-      version = c.options.ensures.options_version;
       budget = omega (arith, c.branches-branches.ensures.branches, c.requires.budget);
       own = c.in_ok-note_own.ensures f.0 f.1 f.2;
       others = refl;
