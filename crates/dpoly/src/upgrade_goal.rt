@@ -17,11 +17,7 @@ use script_reading::WithGoal;
 use std::alloc::Global;
 
 // Feeds a piece, and keeps it.
-fn feed_and_keep(
-    feed: &mut GoalFeed<'_>,
-    kept: &mut Vec<u8>,
-    piece: &[u8],
-) -> Result<(), CertFault>
+fn feed_and_keep(feed: &mut GoalFeed<'_>, kept: &mut Vec<u8>, piece: &[u8]) -> Result<(), CertFault>
     ensures goes { IsFedPiece feed.old piece.now feed.new result }
     ensures kept { OnOk result (kept.new.items ≡ kept.old.items ++ piece.now) }
     ensures more { OnOk result (bytes_taken feed.new ≡ bytes_taken feed.old + length piece.now) }
