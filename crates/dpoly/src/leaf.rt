@@ -25,7 +25,7 @@ pub struct Engine<'a, R, G> {
     pub gate: &'a G,
 }
 
-// The book, searched on by its own options until it has an answer.
+// The book, searched on by its own options until it has an answer, perhaps over to version 5.
 fn searched<R: Threads + Wait + Sync, G: Gate + Sync>(
     engine: &Engine<'_, R, G>,
     alloc: Global,

@@ -8,6 +8,7 @@ use Rattle.poly_graph.specs.ProblemViews.{Parts, problem_of}
 use Rattle.cover_data.specs.declared.margins.Options.{Options}
 use Rattle.cover_data.specs.Margins.{margins_in, options_in}
 use Rattle.cert_model.specs.Least.{lower_end}
+use Rattle.cover_book.specs.Model.{BookModel}
 use Rattle.goal_limit.specs.Lows.{root_low}
 use Rattle.goal_limit.specs.Tries.{Span, is_between}
 use Rattle.least_search.specs.declared.aim.Aim.{Aim}
