@@ -2,7 +2,7 @@
 use Rattle.std.proofs.Common.{◌≡◌, ◌≢◌, ◌⊎◌, ◌+◌, inl, inr, ℕ, zero, suc, List, [], ◌∷◌, ◌++◌, Bool, true, false, true≢false, Option, None, Some, IsTrue, cond, length, map, refl, ap, ap₂, sym, ◌∙◌, subst, arith, append_assoc, append-nil}
 use Rattle.std.specs.Prelude.{slice_get, IfOk, Result, Ok, Err}
 use Rattle.std.specs.List.{All}
-use Rattle.std.proofs.lemmas.Bool.{lt-ltb}
+use Rattle.std.proofs.lemmas.Bool.{ne_eqb}
 use Rattle.std.proofs.lemmas.List.Elements.{All-nil, All-cons}
 use Rattle.std.proofs.lemmas.Option.{none-some}
 use Rattle.command_line.specs.declared.request.Options.{Options}
@@ -11,12 +11,12 @@ use Rattle.poly_graph.specs.Problem.{Problem}
 use Rattle.poly_graph.specs.ProblemViews.{Parts, problem_of}
 use Rattle.problem_session.specs.Session.{problems_of}
 use Rattle.interval_model.specs.Space.{Space}
-use Rattle.cover_model.specs.State.{State, Loosenings, in_version}
+use Rattle.cover_model.specs.State.{State}
 use Rattle.cover_model.specs.Honest.{is_honest}
 use Rattle.cert_model.specs.Due.{Standing, Value, at_point, left_open}
 use Rattle.cert_model.specs.AnswerText.{has_open, solve_text}
 use Rattle.cert_model.specs.Least.{is_lines_version}
-use Rattle.cert_model.specs.Session.{AreAccepted, is_session_version, one_verdict, part_branches, session_standing}
+use Rattle.cert_model.specs.Session.{is_session_version, one_verdict, part_branches, session_standing}
 use Rattle.cert_model.specs.SessionLaws.{IsSession}
 use Rattle.cert_model.specs.Standing.{Stands, branches_of}
 use Rattle.cover_data.specs.declared.margins.Options as cover
@@ -30,7 +30,7 @@ use Rattle.cover_book.specs.Session.{AreBooksOf, next_kept}
 use Rattle.cert_text.specs.Session.{IsSessionText, TellsOf, session_version}
 use Rattle.cert_text.proofs.Leftovers.{left_tells_of_nodes}
 use Rattle.solve_core.specs.Solved.{IsCheckWithin, IsInVersionOf, IsSolved}
-use Rattle.check_run.specs.Answer.{loosenings_of, solve_texts, AreFoundFrom, IsFound, IsFoundPart}
+use Rattle.check_run.specs.Answer.{is_answer_version, loosenings_of, solve_texts, AreFoundFrom, IsFound, IsFoundPart}
 use Rattle.check_run.specs.Script.{AreWithin, IsWithin}
 use Rattle.dpoly.specs.declared.answers.SearchAnswer.{SearchAnswer}
 use Rattle.dpoly.specs.Search.{search_options, book_texts, AreLeftBy, AreSearchAnswers, AreTold, IsLeftBy, IsSearchAnswer, SaysLeft, SaysOf, SayOf}
@@ -61,9 +61,14 @@ pub lines_version : (v : ℕ) → (v ≡ 2) ⊎ (v ≡ 5) → IsTrue (is_lines_v
 lines_version v (inl e) = ap is_lines_version e
 lines_version v (inr e) = ap is_lines_version e
 
-pub several_version : (v : ℕ) → (v ≡ 2) ⊎ (v ≡ 5) → IsTrue (is_session_version (session_version v))
-several_version v (inl e) = ap (λ (n : ℕ). is_session_version (session_version n)) e
-several_version v (inr e) = ap (λ (n : ℕ). is_session_version (session_version n)) e
+session-version : (v : ℕ) → (v ≡ 2) ⊎ (v ≡ 5) → IsTrue (is_session_version (session_version v))
+session-version v (inl e) = ap (λ (n : ℕ). is_session_version (session_version n)) e
+session-version v (inr e) = ap (λ (n : ℕ). is_session_version (session_version n)) e
+
+several_version : (n v : ℕ) → (v ≡ 2) ⊎ (v ≡ 5) → IsTrue (is_answer_version (suc (suc n)) (session_version v))
+several_version n v h =
+    let w : ℕ = session_version v in
+    ap (λ (b : Bool). cond b (is_lines_version w) (is_session_version w)) (ne_eqb (suc (suc n)) 1 (λ e. absurd (omega (arith, e)))) ∙ session-version v h
 
 -- what holds of an answer for two reasons
 pub both_ok : {X E : Type 0} {P Q R : X → Type 0} (r : Result X E) → IfOk r P → IfOk r Q → ((x : X) → P x → Q x → R x) → IfOk r R
@@ -270,7 +275,7 @@ session_answers o v lines c d later books told are left is say =
       values = is.values;
       answers = record {
         version = session_version v;
-        is_version = several_version v lines;
+        is_version = several_version (length (problems_of later)) v lines;
         accepted = is.accepted;
         found = found-all o u ps cert 0 [] session books is.values are left is.count tells;
       };
