@@ -1,7 +1,6 @@
 use Rattle.std.proofs.Common.{rules, [], subst, sym}
 use Rattle.std.specs.List.{All}
 use Rattle.cover_data.specs.declared.margins.Options.{Options}
-use Rattle.cover_book.specs.Session.{AreBooksOf}
 use Rattle.solve_core.specs.Solved.{AreBooksInOneVersion, IsCheckWithin}
 use Rattle.dpoly.specs.Search.{search_options}
 use Rattle.dpoly.proofs.SessionAnswers.{both_ok, left_by, lines_version, session_limits}
