@@ -16,7 +16,7 @@ use Rattle.interval_model.specs.Space.{Space}
 use Rattle.cover_data.specs.Margins.{options_in}
 use Rattle.cert_text.specs.Means.{IsPointCertificate}
 use Rattle.cert_resume.specs.Calls.{HasWalked, IsFoundPoint}
-use Rattle.cert_resume.specs.Going.{CanBeResumed, IsBegun, IsBegunWith, options_now}
+use Rattle.cert_resume.specs.Going.{CanBeResumed, IsBegun, IsBegunWith}
 use Rattle.cert_resume.proofs.Matches.{none_of, some_of}
 use Rattle.cert_resumed.proofs.Spelled.{read_spelled}
 use Rattle.cert_resume.proofs.Whole.{is_begun, can_be_resumed, first_main, gone_of, is_resumed_cover, is_resumed_point}
