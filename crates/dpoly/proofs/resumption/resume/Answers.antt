@@ -16,7 +16,7 @@ use Rattle.interval_model.specs.Space.{Space}
 use Rattle.cover_data.specs.Margins.{options_in}
 use Rattle.cert_text.specs.Means.{IsPointCertificate}
 use Rattle.cert_resume.specs.Calls.{HasWalked, IsFoundPoint}
-use Rattle.cert_resume.specs.Going.{CanBeResumed, IsBegun, IsBegunWith, options_now}
+use Rattle.cert_resume.specs.Going.{CanBeResumed, IsBegun, IsBegunWith}
 use Rattle.cert_resume.proofs.Matches.{none_of, some_of}
 use Rattle.cert_resumed.proofs.Spelled.{read_spelled}
 use Rattle.cert_resume.proofs.Whole.{is_begun, can_be_resumed, first_main, gone_of, is_resumed_cover, is_resumed_point}
@@ -54,11 +54,11 @@ returns g c = λ bytes is.
     ∙ ap (λ (ls : List Line). whole_text (options_of base r) (map read_line ls) x) c.deref-in-None.ensures.value in
     is_resumed_cover q c.is_whole.ensures base r c.requires.limits bytes is (record { cert = c.in_ok-cert-in-None.cert; own = x.own; others = x.others }) x walked.0 gone spelled text c.in_ok-cert-in-None.ensures.fits refl refl
 
-pub returns-in_ok-cert : goal.returns-in_ok-cert
-returns-in_ok-cert g c = λ bytes is.
+pub returns-in-Some : goal.returns-in-Some
+returns-in-Some g c = λ bytes is.
     let q = c.args.problem.now in let base = c.args.base in let r = c.args.request in let o = options_of base r in let x : Going = c.walk.new.going in let point : Space = c.in-Some.point in
     let found : IsFoundPoint q o o.version x point =
     subst (λ (u : Options). IsFoundPoint q u u.version x point) c.options_with-options.ensures (some_of _ _ _ c.in-Some.point c.in-Some.is c.in_ok-point.ensures) in
     let asked = c.in_version-options.ensures ∙ ap (options_in x.version) c.options_with-options.ensures in
-    let cert = subst (λ (u : Options). IsPointCertificate (problem_of q) u point c.in_ok-cert.cert.items) asked c.in_ok-cert.ensures.accepted in
-    is_resumed_point q c.is_whole.ensures base r c.requires.limits bytes is x point c.in_ok-cert.cert.items found cert
+    let cert = subst (λ (u : Options). IsPointCertificate (problem_of q) u point c.in_ok-cert-in-Some.cert.items) asked c.in_ok-cert-in-Some.ensures.accepted in
+    is_resumed_point q c.is_whole.ensures base r c.requires.limits bytes is x point c.in_ok-cert-in-Some.cert.items found cert
