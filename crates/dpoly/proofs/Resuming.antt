@@ -1,5 +1,6 @@
 -- From a certificate that was read to the one that goes on from it.
-use Rattle.std.proofs.Common.{◌≡◌, inl, inr, ◌⊎◌, ◌≤◌, ℕ, zero, suc, List, [], ◌∷◌, Bool, true, false, Option, IsTrue, length, refl, ap, sym, ◌∙◌, subst}
+use Rattle.std.proofs.Common.{◌≡◌, inl, inr, ◌⊎◌, ◌≤◌, ℕ, zero, suc, List, [], ◌∷◌, Bool, true, false, cond, Option, IsTrue, length, refl, ap, sym, ◌∙◌, subst}
+use Rattle.std.specs.Prelude.{nat_le}
 use Rattle.desk.specs.Sight.{Sight}
 use Rattle.command_line.specs.Words.{Resume, IsResume}
 use Rattle.poly_graph.specs.Problem.{Problem}
@@ -208,6 +209,11 @@ refused-ends p b words cert fault old new status h (no_memory_yet is quiet) = no
 
 -- ---- the condition of the search
 
+-- a search that goes on begins in version 2 or 5
+begins : (is_old : Bool) → (cond is_old 2 5 ≡ 2) ⊎ (cond is_old 2 5 ≡ 5)
+begins true = inl refl
+begins false = inr refl
+
 pub base-limits : (p : Parts) (words : Resume) (base : Base) → IsResume words → IsWithin p → (cert : List ℕ) → IsBase (problem_of p) base.bound cert base → IsWithinLimits p (options_of base (request_of words))
 base-limits p words base asked w cert h =
     let fits = header_fits (problem_of p) base.bound cert h.read.loosenings (left_open h.read.left) h.is_read.accepted in
@@ -221,6 +227,7 @@ base-limits p words base asked w cert h =
         above_delta = rw (d, m) fits.2;
         few_margin = rw m fits.3;
         few_least = asked.least_most;
+        version_is = begins (nat_le base.version 2);
       };
       budget = asked.budget_most;
       axes = w.axes;
