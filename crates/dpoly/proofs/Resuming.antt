@@ -208,8 +208,11 @@ refused-ends p b words cert fault old new status h (no_memory_yet is quiet) = no
 
 -- ---- the condition of the search
 
--- a search that goes on begins in version 2 or 5
-begins : (is_old : Bool) → (cond is_old 2 5 ≡ 2) ⊎ (cond is_old 2 5 ≡ 5)
+-- a search begins in version 2 or 5
+abbrev IsFirst : ℕ → Type 0
+IsFirst v = (v ≡ 2) ⊎ (v ≡ 5)
+
+begins : (is_old : Bool) → IsFirst (cond is_old 2 5)
 begins true = inl refl
 begins false = inr refl
 
