@@ -6,9 +6,9 @@
 It prints what `dpoly-check` prints and ends with the same status. It was written from
 docs/FORMATS.md, by one who had not read the sources in Rattle, so that two readings of that page
 can be compared (`tests/checkers`); what the page left open was asked of the program and written
-there. Goals and least values, square roots and quotients were added by one who knew the definitions
-as well. The words are those of the page, which an auditor keeps beside these files; together they
-take more than an hour:
+there. Goals and least values, square roots and quotients, and version 5 were added with knowledge
+of the definitions. The words are those of the page, which an auditor keeps beside these files;
+together they take more than an hour:
 
     dpoly_intervals.py  ends and intervals
     dpoly_script.py     reads a script: terms, atoms and forms
@@ -29,11 +29,12 @@ import sys
 import time
 from copy import copy
 from fractions import Fraction
-from typing import Any, Callable, Dict, List, Mapping, NamedTuple, Optional, Sequence, Tuple
+from typing import (Any, Callable, Collection, Dict, List, Mapping, NamedTuple, Optional, Sequence,
+                    Tuple)
 
 from dpoly_forms import Form
 from dpoly_intervals import INFINITE, UNIT, End, Interval, meet, rounded, within
-from dpoly_lines import RULES, Rule
+from dpoly_lines import BEHIND_BOUND, RULES, VERSIONS, Rule
 from dpoly_roots import rewritten
 from dpoly_rows import Combiner, Graph, Narrowed, Pair, Rows, Space, narrowed
 from dpoly_script import (SCRIPT_FAULTS, WIDEST, Names, Problem, ScriptFault, Terms,
@@ -43,7 +44,6 @@ CERTIFICATE_FAULTS = ('BadHeader BadNumber RuleFails Missing Extra WrongBound No
                       'LineTooLong').split()
 # The domains of a Bool axis, by their words: the least and the greatest truth value.
 DOMAINS = {'false': (False, False), 'true': (True, True), 'both': (False, True)}
-MOST_PAIRS = 64
 MOST_LEMMAS = 1048576
 LONGEST_LINE = 524288
 
@@ -99,12 +99,25 @@ def kept_range(kind: str, loosening: End, mark: bool = True) -> Interval:
 
 
 # ---------------------------------------------------------------- The cover
+def root_space(problem: Problem) -> Space:
+    """The space of the root state."""
+    space: List[Tuple[int, int]] = []
+    for axis in range(len(problem.names.axes)):
+        if axis in problem.declared:
+            low, high = problem.declared[axis]
+            space.append((rounded(low)[0], rounded(high)[1]))
+        else:
+            space.append(DOMAINS['both'])
+    return tuple(space)
+
+
 class Cover:
     """The cover of a certificate of some version, or of a part, with the lemmas that it keeps;
-    margin and delta are ends, and so is `lower`, the bound of a least value."""
+    margin and delta are ends, and so is `lower`, the bound where the cover is one of a least
+    value."""
     def __init__(self, problem: Problem, version: int, margin: End, delta: End,
                  kept: Sequence[State] = (), lower: Optional[End] = None):
-        self.problem, self.version, self.lower = problem, version, lower
+        self.problem, self.version, self.lower = problem, VERSIONS[version], lower
         self.margin, self.delta = margin, delta
         self.lemmas, self.first = list(kept), len(kept)
         self.axes, self.atoms, self.declared = problem.names.axes, problem.atoms, problem.declared
@@ -146,14 +159,7 @@ class Cover:
 
     def root(self) -> State:
         """The root state."""
-        space: List[Tuple[int, int]] = []
-        for axis in range(len(self.axes)):
-            if axis in self.declared:
-                low, high = self.declared[axis]
-                space.append((rounded(low)[0], rounded(high)[1]))
-            else:
-                space.append(DOMAINS['both'])
-        return State(tuple(space), {})
+        return State(root_space(self.problem), {})
 
     # ---- the rules
     def after(self, word: str, numbers: Values, state: State, main: bool) -> Optional[List[State]]:
@@ -175,10 +181,10 @@ class Cover:
         if word == 'flip' and first not in self.declared:
             if state.space[first] == DOMAINS['both']:
                 return [state.on(first, DOMAINS['false']), state.on(first, DOMAINS['true'])]
-        if word == 'over' and main and self.version == 4:
+        if word == 'over' and main and self.lower is not None:
             return [] if self.goal(state.space)[0] >= self.lower else None
         if word == 'open' or word == 'stuck' and self.is_stuck(first, state):
-            return [] if main and self.version != 4 else None
+            return [] if main and self.lower is None else None
         return None
 
     def is_stuck(self, atom: int, state: State) -> bool:
@@ -202,7 +208,7 @@ class Cover:
 
     def after_narrowing(self, rule: Rule, numbers: Values, state: State) -> Optional[List[State]]:
         """The same for the lines that narrow by an atom or by a combination."""
-        if rule.by != 'range' and self.version < 2:
+        if rule.by not in self.version.narrows:
             return None
         atoms = [it for kind, it in zip(rule.kinds(len(numbers)), numbers) if kind == 'A']
         marks = [state.marks.get(it) for it in atoms]
@@ -211,7 +217,7 @@ class Cover:
                 return None
         self.rows.follow(state.space)
         if rule.by == 'combination':
-            if not is_combination(atoms, numbers[1::2]):
+            if not self.is_combination(atoms, numbers[1::2]):
                 return None
             axes = self.combiner.combined([
                 Pair(self.atoms[atom][0], multiplier, self.kept(atom, mark))
@@ -223,6 +229,11 @@ class Cover:
         if rule.shape == 'ends':
             return [] if axes is None else None
         return [state.narrowed_to(axes)] if axes is not None else None
+
+    def is_combination(self, atoms: Sequence[int], multipliers: Sequence[End]) -> bool:
+        """Whether these are the pairs of a combination."""
+        is_short = len(atoms) <= self.version.most_pairs
+        return is_short and ascends(atoms) and 0 not in multipliers
 
     def kept(self, atom: int, mark: bool) -> Interval:
         """The range of an atom at the margin, or its off-range."""
@@ -317,11 +328,6 @@ def ascends(numbers: Sequence[int]) -> bool:
     return all(a < b for a, b in zip(numbers, numbers[1:]))
 
 
-def is_combination(atoms: Sequence[int], multipliers: Sequence[End]) -> bool:
-    """Whether these are the pairs of a combination."""
-    return len(atoms) <= MOST_PAIRS and ascends(atoms) and 0 not in multipliers
-
-
 # ---------------------------------------------------------------- Lines
 # What follows the word of a line that is none of a tree: N a number below 2^32, D a number of the
 # grid, B or L the one or the other, or `none`, T a key of DOMAINS.
@@ -414,14 +420,41 @@ class Lines:
 
 
 # ---------------------------------------------------------------- Certificates
-class Loosenings(NamedTuple):
-    """The bits of margin and delta."""
+class Header(NamedTuple):
+    """The version, the bits of margin and delta, and the bound."""
+    version: int
     margin: int
     delta: int
+    bound: Optional[int]
 
     @property
     def ends(self) -> Tuple[End, End]:
+        """Margin and delta."""
         return UNIT >> self.margin, UNIT >> self.delta
+
+
+def read_header(lines: Lines, of: Collection[str] = BEHIND_BOUND) -> Header:
+    """The first four lines of a certificate of one of these."""
+    version = lines.header('dpoly')[1][0]
+    if version not in VERSIONS or VERSIONS[version].of.isdisjoint(of):
+        raise CertificateFault('BadHeader')
+    margin, delta = lines.header('margin')[1][0], lines.header('delta')[1][0]
+    if not (1 <= delta <= 30 and delta < margin <= 60):
+        raise CertificateFault('BadHeader')
+    return Header(version, margin, delta, lines.header('bound')[1][0])
+
+
+def behind_bound(header: Header, of: Collection[str], lines: Lines) -> Tuple[str, Values]:
+    """The next line, which is the one behind the bound; the certificate is of one of these."""
+    those = VERSIONS[header.version].of.intersection(of)
+    return lines.header(*(word for it in those for word in BEHIND_BOUND[it]))
+
+
+def takes(problems: Sequence[Problem]) -> Collection[str]:
+    """What a certificate of these problems may be of, by the keys of `BEHIND_BOUND`."""
+    if len(problems) > 1:
+        return ['several checks']
+    return ['one check'] if problems[0].goal is None else ['one check', 'least value']
 
 
 def kept_lemmas(before: Optional[Problem], cover: Optional[Cover], problem: Problem, lines: Lines,
@@ -434,7 +467,7 @@ def kept_lemmas(before: Optional[Problem], cover: Optional[Cover], problem: Prob
         may = cover.lemmas
     if count > min(many, len(may)):
         raise CertificateFault('RuleFails', 'keep')
-    root = Cover(problem, 3, 0, 0).root().space if count else ()
+    root = root_space(problem) if count else ()
     return [State(it.space + root[len(it.space) :], it.marks) for it in may[:count]]
 
 
@@ -445,18 +478,18 @@ def number_of_lemmas(values: Values) -> int:
     return values[0]
 
 
-def check_part(problem: Problem, version: int, loosenings: Loosenings, first: Tuple[str, Values],
-               lines: Lines, kept: Callable[[int], Sequence[State]]) -> Tuple[Optional[Cover], str]:
+def check_part(problem: Problem, header: Header, first: Tuple[str, Values], lines: Lines,
+               kept: Callable[[int], Sequence[State]]) -> Tuple[Optional[Cover], str]:
     """The cover of a part, None for a point, and the answer; `first` is its first line, `kept`
     gives its lemmas."""
     word, values = first
     if word == 'point':
-        Cover(problem, version, *loosenings.ends).read_point(lines)
-        return None, f'confirmed delta-sat\ndelta 1b-{loosenings.delta}\n'
+        Cover(problem, header.version, *header.ends).read_point(lines)
+        return None, f'confirmed delta-sat\ndelta 1b-{header.delta}\n'
     many = number_of_lemmas(values)
-    cover = Cover(problem, version, *loosenings.ends, kept(many))
+    cover = Cover(problem, header.version, *header.ends, kept(many))
     count = cover.read_cover(lines, many)
-    closed = f'confirmed unsat\nmargin 1b-{loosenings.margin}\n'
+    closed = f'confirmed unsat\nmargin 1b-{header.margin}\n'
     return cover, f'open {count}\n' if count else closed
 
 
@@ -489,59 +522,30 @@ def limited(problem: Problem, bits: int, bound: End) -> Problem:
     return found
 
 
-def check_least(problem: Problem, loosenings: Loosenings, lines: Lines) -> str:
-    """The answer to a certificate of a least value, from its line `lower` on."""
-    [lower] = lines.header('lower')[1]
+def check_least(problem: Problem, header: Header, first: Tuple[str, Values], lines: Lines) -> str:
+    """The answer to a certificate of a least value; `first` is its line `lower`."""
+    [lower] = first[1]
     lower = -INFINITE if lower is None else lower
     word, values = lines.header('cover', 'goal')
     of_cover = problem
     if word == 'goal':
         of_cover = limited(problem, values[0], lower)
         word, values = lines.header('cover')
-    cover = Cover(of_cover, 4, *loosenings.ends, lower=lower)
+    cover = Cover(of_cover, header.version, *header.ends, lower=lower)
     cover.read_cover(lines, number_of_lemmas(values))
     answer, found = f'confirmed lower {end_text(lower)}\n', lines.take()
     if not found:
         return answer
     if found[0] != 'point':
         raise CertificateFault('Extra')
-    cover = Cover(problem, 4, *loosenings.ends)
+    cover = Cover(problem, header.version, *header.ends)
     return answer + f'upper {end_text(cover.goal(cover.read_point(lines))[1])}\n'
 
 
-def read_loosenings(lines: Lines) -> Loosenings:
-    """The lines `margin` and `delta`."""
-    found = Loosenings(lines.header('margin')[1][0], lines.header('delta')[1][0])
-    if not (1 <= found.delta <= 30 and found.delta < found.margin <= 60):
-        raise CertificateFault('BadHeader')
-    return found
-
-
-def check_certificate(problems: Sequence[Problem], lines: Lines, bound: Optional[int]) -> str:
-    """The answer to a certificate that is accepted, of the problems of a script's checks: a text
-    for each, in order."""
-    several = len(problems) > 1
-    version = lines.header('dpoly')[1][0]
-    if version not in ((3,) if several else (1, 2) if problems[0].goal is None else (1, 2, 4)):
-        raise CertificateFault('BadHeader')
-    loosenings = read_loosenings(lines)
-    if lines.header('bound')[1] != [bound]:
-        raise CertificateFault('WrongBound')
-    if several:
-        answer = check_several(problems, loosenings, lines)
-    elif version == 4:
-        answer = check_least(problems[0], loosenings, lines)
-    else:
-        first = lines.header('cover', 'point')
-        answer = check_part(problems[0], version, loosenings, first, lines, lambda _: ())[1]
-    if lines.take():
-        raise CertificateFault('Extra')
-    return answer
-
-
-def check_several(problems: Sequence[Problem], loosenings: Loosenings, lines: Lines) -> str:
-    """The answer to a certificate of several checks, from its line `checks` on."""
-    if lines.header('checks')[1] != [len(problems)]:
+def check_several(problems: Sequence[Problem], header: Header, first: Tuple[str, Values],
+                  lines: Lines) -> str:
+    """The answer to a certificate of several checks; `first` is its line `checks`."""
+    if first[1] != [len(problems)]:
         raise CertificateFault('BadHeader')
     answers: List[str] = []
     cover: Optional[Cover] = None
@@ -550,11 +554,30 @@ def check_several(problems: Sequence[Problem], loosenings: Loosenings, lines: Li
         found = lines.take()
         if not found or found[0] not in ('cover', 'point'):
             raise CertificateFault('Missing')
-        cover, answer = check_part(problem, 3, loosenings, found, lines,
+        cover, answer = check_part(problem, header, found, lines,
                                    lambda many: kept_lemmas(before, cover, problem, lines, many))
         answers.append(answer)
         before = problem
     return ''.join(answers)
+
+
+def check_certificate(problems: Sequence[Problem], lines: Lines, bound: Optional[int]) -> str:
+    """The answer to a certificate that is accepted, of the problems of a script's checks: a text
+    for each, in order."""
+    of = takes(problems)
+    header = read_header(lines, of)
+    if header.bound != bound:
+        raise CertificateFault('WrongBound')
+    first = behind_bound(header, of, lines)
+    if first[0] == 'checks':
+        answer = check_several(problems, header, first, lines)
+    elif first[0] == 'lower':
+        answer = check_least(problems[0], header, first, lines)
+    else:
+        answer = check_part(problems[0], header, first, lines, lambda _: ())[1]
+    if lines.take():
+        raise CertificateFault('Extra')
+    return answer
 
 
 # ---------------------------------------------------------------- The whole

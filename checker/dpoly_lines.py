@@ -1,6 +1,7 @@
 """The lines of a tree by their first words: what each does with the state where it stands, and what
-follows its word. The table that all of the repository's Python has of them."""
-from typing import Dict, NamedTuple
+follows its word; and what each version of the format has. The tables that all of the repository's
+Python has of them."""
+from typing import Dict, FrozenSet, NamedTuple, Tuple
 
 # How many states a line of each shape leaves to the lines behind it; one that stays leaves its own
 # state open.
@@ -46,6 +47,29 @@ RULES: Dict[str, Rule] = {
     'case': Rule('parts', 'A'),
     'open': Rule('stays'),
     'stuck': Rule('stays', 'A'),
+}
+
+
+class Version(NamedTuple):
+    """A version of the format: what its certificates are of, by the keys of `BEHIND_BOUND`, what
+    may narrow a box, how many pairs a combination has at most, and whether an honest line may cut
+    any Real axis above the least width, or the widest alone, which no checker asks."""
+    of: FrozenSet[str]
+    narrows: Tuple[str, ...]
+    most_pairs: int
+    cuts_any: bool
+
+
+# The words of the line behind the bound, which tells what a certificate is of.
+BEHIND_BOUND = {'one check': ('cover', 'point'), 'several checks': ('checks',),
+                'least value': ('lower',)}
+ALL_NARROW = ('range', 'off-range', 'combination')
+VERSIONS: Dict[int, Version] = {
+    1: Version(frozenset({'one check'}), ('range',), 0, False),
+    2: Version(frozenset({'one check'}), ALL_NARROW, 64, False),
+    3: Version(frozenset({'several checks'}), ALL_NARROW, 64, False),
+    4: Version(frozenset({'least value'}), ALL_NARROW, 64, False),
+    5: Version(frozenset(BEHIND_BOUND), ALL_NARROW, 512, True),
 }
 
 

@@ -289,12 +289,12 @@ class Loosened:
         return self.ways((self.formula(a), self.formula(b, not truth)), (self.formula(a, False), self.formula(b, truth)))
 
 
-def point_theorem(written: Any, check: Any, script: bytes, lines: Any, header: "Header", name: str) -> List[str]:
+def point_theorem(asked: "Asked", script: bytes, lines: Any, header: Any, name: str) -> List[str]:
     """The theorem that the lines of a point show: there is a point that satisfies what is asserted, loosened by delta."""
+    written, check, problem = asked
     if len(written.axes) != len(check.axes):
         raise Refused("the point's theorem leaves out roots and quotients")
-    problem = Problem(check, header.bound)
-    space = checker.Cover(problem, 2, *header.ends).read_point(lines)
+    space = checker.Cover(problem, header.version, *header.ends).read_point(lines)
     trees, names = Trees(written, script), coq_names(written.axes)
     delta = Fraction(1, 2**header.delta)
     loosened = Loosened(Printer(trees, names), delta)
@@ -534,16 +534,22 @@ def wrapped(text: str, indent: str = "  ", width: int = 120) -> str:
     return "\n".join([*lines, line.rstrip()])
 
 
-def read_check(script: bytes, bound: Optional[int]) -> List[Tuple[Any, Any]]:
-    """Of each check of a script what is in force as it is written, and the same with constants for roots and quotients."""
+class Asked(NamedTuple):
+    """Of a check what is in force as it is written, the same with constants for roots and quotients, and the problem of that."""
+
+    written: Any
+    check: Any
+    problem: Any
+
+
+def read_checks(script: bytes, bound: Optional[int]) -> List[Asked]:
+    """What the checks of a script ask."""
     steps = steps_of(read_expressions(script))
     try:
-        names = Names(steps).checks
-        for it in names:
-            Problem(it, bound)
-        return [(it, it) for it in names]
+        return [Asked(it, it, Problem(it, bound)) for it in Names(steps).checks]
     except ScriptFault:
-        return [(it, rewritten(it, script, bound)) for it in Names(steps, roots=True).checks]
+        checks = [(it, rewritten(it, script, bound)) for it in Names(steps, roots=True).checks]
+        return [Asked(written, check, Problem(check, bound)) for written, check in checks]
 
 
 def missing_bounds(check: Any, bound: int) -> List[Tuple[str, bool]]:
@@ -681,85 +687,67 @@ def theorem(script: bytes, certificate: bytes, options: Options = Options(), nam
 def theorems(script: bytes, certificate: bytes, options: Options) -> List[str]:
     """The same without the head of the file."""
     lines = checker.Lines(certificate)
-    version = lines.header("dpoly")[1][0]
-    margin, delta = lines.header("margin")[1][0], lines.header("delta")[1][0]
-    [bound] = lines.header("bound")[1]
-    checks = read_check(script, bound)
-    if version not in (1, 2, 3, 4) or (version == 3) != (len(checks) > 1):
-        raise Refused(f"version {version} is not that of a certificate of this script")
-    if not (1 <= delta <= 30 and delta < margin <= 60):
-        raise Refused("the header's margin or delta is none")
-    header = Header(version, margin, delta, bound)
-    if version == 3:
-        return session(checks, script, lines, header, options)
-    return single(*checks[0], script, lines, header, options)
+    header = checker.read_header(lines)
+    checks = read_checks(script, header.bound)
+    first = checker.behind_bound(header, checker.takes([it.problem for it in checks]), lines)
+    if first[0] == "checks":
+        return session(checks, script, lines, header, first, options)
+    return single(checks[0], script, lines, header, first, options)
 
 
-class Header(NamedTuple):
-    """The first lines of a certificate."""
-
-    version: int
-    margin: int
-    delta: int
-    bound: Optional[int]
-
-    @property
-    def ends(self) -> Tuple[int, int]:
-        return UNIT >> self.margin, UNIT >> self.delta
-
-
-def single(written: Any, check: Any, script: bytes, lines: Any, header: Header, options: Options) -> List[str]:
-    """The theorem of a script with one check."""
-    problem = Problem(check, header.bound)
+def single(asked: Asked, script: bytes, lines: Any, header: Any, first: Tuple[str, Any], options: Options) -> List[str]:
+    """The theorem of a script with one check; `first` is the line behind the header."""
+    (word, values), problem = first, asked.problem
     lower = limit = end = None
-    if header.version == 4:
-        [end] = lines.header("lower")[1]
-        if end is None or problem.goal is None:
-            raise Refused("the certificate has no lower bound, so it proves nothing of the goal")
-        lower = Fraction(end, UNIT)
-    word, values = lines.header("cover", "goal" if header.version == 4 else "point")
     if word == "point":
-        found = point_theorem(written, check, script, lines, header, options.name)
+        found = point_theorem(asked, script, lines, header, options.name)
         if lines.take():
             raise Refused(f"line {lines.number}: a line too many")
         return found
+    if word == "lower":
+        [end] = values
+        if end is None:
+            raise Refused("the certificate has no lower bound, so it proves nothing of the goal")
+        lower = Fraction(end, UNIT)
+        word, values = lines.header("cover", "goal")
     if word == "goal":
         limit = values[0]
         problem = checker.limited(problem, limit, end)
         word, values = lines.header("cover")
-    part = Part(written, check, script, header.bound, options, lower, limit)
+    part = Part(asked.written, asked.check, script, header.bound, options, lower, limit)
     cover = checker.Cover(problem, header.version, *header.ends, lower=end)
     found = theorem_of(part, problem, cover, checker.number_of_lemmas(values), lines, header.margin)
     rest = lines.take()
-    if rest and header.version == 4 and rest[0] == "point":
-        checker.Cover(Problem(check, header.bound), 4, *header.ends).read_point(lines)
+    if rest and lower is not None and rest[0] == "point":
+        checker.Cover(asked.problem, header.version, *header.ends).read_point(lines)
         rest = lines.take()
     if rest:
         raise Refused(f"line {lines.number}: a line too many")
     return found
 
 
-def session(checks: List[Tuple[Any, Any]], script: bytes, lines: Any, header: Header, options: Options) -> List[str]:
-    """A theorem for each check whose part is a cover that leaves nothing: NAME_1, NAME_2, .. by the numbers of the checks."""
-    if lines.header("checks")[1] != [len(checks)]:
+def session(checks: List[Asked], script: bytes, lines: Any, header: Any, first: Tuple[str, Any], options: Options) -> List[str]:
+    """A theorem for each check whose part is a cover that leaves nothing: NAME_1, NAME_2, .. by the numbers of the checks. `first`
+    is the line behind the header."""
+    if first[1] != [len(checks)]:
         raise Refused("the certificate has another number of checks")
     found, before, cover, places = [], None, None, []
-    for at, (written, check) in enumerate(checks):
-        problem = Problem(check, header.bound)
+    for at, asked in enumerate(checks):
+        problem = asked.problem
         word, values = lines.take() or (None, [])
         if word == "point":
-            found += point_theorem(written, check, script, lines, header, f"{options.name}_{at + 1}")
+            found += point_theorem(asked, script, lines, header, f"{options.name}_{at + 1}")
             cover, places = None, []
         elif word == "cover":
             count = checker.number_of_lemmas(values)
             kept = checker.kept_lemmas(before, cover, problem, lines, count)
-            cover, probe = checker.Cover(problem, 3, *header.ends, kept), copy(lines)
+            cover, probe = checker.Cover(problem, header.version, *header.ends, kept), copy(lines)
             if cover.read_cover(probe, count):
                 found.append(f"(* Check {at + 1} is open. *)\n")
             else:
-                part = Part(written, check, script, header.bound, options._replace(name=f"{options.name}_{at + 1}"))
-                places = places[: len(kept)]
-                found += theorem_of(part, problem, checker.Cover(problem, 3, *header.ends), count, lines, header.margin, places)
+                part = Part(asked.written, asked.check, script, header.bound, options._replace(name=f"{options.name}_{at + 1}"))
+                places, again = places[: len(kept)], checker.Cover(problem, header.version, *header.ends)
+                found += theorem_of(part, problem, again, count, lines, header.margin, places)
             lines.number = probe.number
         else:
             raise Refused(f"line {lines.number}: the part of check {at + 1} is missing")

@@ -56,13 +56,12 @@ def used_by(script: bytes, certificate: bytes, bound: Optional[int],
     except ImportError:
         return None
     lines = trim.checker.Lines(certificate)
-    header = ("dpoly", "margin", "delta", "bound")
-    [version], [margin], [delta], _ = (lines.header(it)[1] for it in header)
+    header = trim.checker.read_header(lines)
     word, values = lines.header("cover", "point")
     [problem] = trim.checker.read_problems(script, bound)
     if word == "point":
         return None
-    cover = trim.checker.Cover(problem, version, trim.UNIT >> margin, trim.UNIT >> delta)
+    cover = trim.checker.Cover(problem, header.version, *header.ends)
     try:
         needs = sorted(trim.read_trimmed(cover, lines, values[0], end)[1].needs)
     except trim.Untrimmed:

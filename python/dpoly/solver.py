@@ -192,7 +192,7 @@ def run(script: bytes, options: List[str], bound: Optional[int], check: bool, se
     """Solves the script, and has the certificate checked."""
     question = Question(script, bound)
     said, certificate, confirmed = run_command("solve", question, options, check, seconds, programs)
-    if certificate.startswith(b"dpoly 3\n"):
+    if any(it.startswith(b"checks ") for it in certificate.split(b"\n", 5)[4:5]):  # behind the header's first four lines
         raise DpolyError("the script has several checks: solve_each answers them")
     return answer_of(said, certificate, confirmed, question)
 

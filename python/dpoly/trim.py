@@ -14,7 +14,6 @@ import time
 from typing import Any, Dict, FrozenSet, Iterator, List, NamedTuple, Optional, Sequence, Set, Tuple
 
 from .plain import checker  # isort: skip
-from dpoly_intervals import UNIT  # noqa: E402
 from dpoly_lines import RULES, rule_of  # noqa: E402
 from dpoly_script import ScriptFault  # noqa: E402
 
@@ -292,26 +291,23 @@ def trim(script: bytes, certificate: bytes) -> bytes:
     """A certificate of the same script that says the same, without lines that nothing needs. Raises `Untrimmed`, or the faults of
     script and certificate as the checker in Python does."""
     lines = checker.Lines(certificate)
-    version = lines.header("dpoly")[1][0]
-    margin, delta = lines.header("margin")[1][0], lines.header("delta")[1][0]
-    [bound] = lines.header("bound")[1]
-    problems = checker.read_problems(script, bound)
-    if version not in (1, 2, 4) or len(problems) != 1:
-        raise Untrimmed("certificates of several checks are left as they are" if version == 3 else f"version {version} is not known")
-    [problem] = problems
-    lower = None
-    if version == 4:
-        [lower] = lines.header("lower")[1]
+    header = checker.read_header(lines)
+    problems = checker.read_problems(script, header.bound)
+    word, values = checker.behind_bound(header, checker.takes(problems), lines)
+    if word == "checks":
+        raise Untrimmed("certificates of several checks are left as they are")
+    [of_cover], lower = problems, None
+    if word == "lower":
+        [lower] = values
         lower = -checker.INFINITE if lower is None else lower
-    word, values = lines.header("cover", "goal" if version == 4 else "point")
-    of_cover = problem
+        word, values = lines.header("cover", "goal")
     if word == "goal":
-        of_cover = checker.limited(problem, values[0], lower)
+        of_cover = checker.limited(of_cover, values[0], lower)
         word, values = lines.header("cover")
     if word == "point":
         return certificate
     head = [it.decode("ascii") for it in lines.lines[: lines.number - 1]]
-    cover = checker.Cover(of_cover, version, UNIT >> margin, UNIT >> delta, lower=lower)
+    cover = checker.Cover(of_cover, header.version, *header.ends, lower=lower)
     found = [*head, *trim_cover(cover, lines, checker.number_of_lemmas(values))]
     rest = [it.decode("ascii") for it in lines.lines[lines.number :]]
     return "\n".join([*found, *rest, ""]).encode("ascii")
@@ -334,11 +330,8 @@ def run(words: Any) -> int:
         with open(words.certificate, "rb") as file:
             certificate = file.read()
         found = trim_fully(script, certificate)
-        bound = checker.Lines(certificate)
-        for word in ("dpoly", "margin", "delta"):
-            bound.header(word)
-        [number] = bound.header("bound")[1]
-        if checker.check(script, found, number) != checker.check(script, certificate, number):
+        bound = checker.read_header(checker.Lines(certificate)).bound
+        if checker.check(script, found, bound) != checker.check(script, certificate, bound):
             raise Untrimmed("what is left has another answer: it was not written")
         draft = f"{words.out}.draft-{os.getpid()}"
         with open(draft, "xb") as file:

@@ -21,6 +21,20 @@ ROWS = [
     ("cover 1/lemma 0/real 0 1b0/yes 2 3/no/pull 2/void 3/tree/unit 2/unit 3/pull 2/void 3/end",
      "cover 0/tree/unit 2/unit 3/pull 2/void 3/end"),
 ]
+LEAST = SCRIPT.replace("(check-sat)", "(minimize (* 1 x))(check-sat)")
+SEVERAL = "(declare-const x Real)(assert (<= 0 x 1))(assert (>= (* x x) 2))(check-sat)(check-sat)"
+PART = "cover 0/keep 0/tree/unit 2/void 2/end"
+# what is read alike in two versions: a script, the versions, and lines
+VERSIONS = [
+    (SCRIPT, (2, 5), ROWS[3][0]),
+    (SCRIPT, (2, 5), "cover 0/tree/unit 2/unit 3/voidcomb 2 -1b0 3 1b0/end"),
+    (SEVERAL, (3, 5), f"checks 2/{PART}/{PART}"),
+    (LEAST, (4, 5), "lower 1b-3/cover 0/tree/unit 2/pull 2/over/end"),
+]
+
+
+def header(version):
+    return HEAD.replace("dpoly 2", f"dpoly {version}")
 
 
 def command(words):
@@ -55,6 +69,27 @@ class Trim(unittest.TestCase):
             with contextlib.redirect_stdout(said):
                 self.assertEqual(command(["coq", *paths[:2], "--name", "apart"]), 0)
             self.assertIn("Theorem apart :", said.getvalue())
+
+    def test_versions(self):
+        from dpoly import coq, trim
+
+        for script, versions, lines in VERSIONS:
+            texts = [(header(it) + lines.replace("/", "\n") + "\n").encode() for it in versions]
+            with self.subTest(lines):
+                theorems = [coq.theorem(script.encode(), it) for it in texts]
+                self.assertIn("Theorem", theorems[0])
+                self.assertEqual(*theorems)
+                if script == SEVERAL:
+                    for text in texts:
+                        self.assertRaises(trim.Untrimmed, trim.trim, script.encode(), text)
+                    continue
+                old, new = (trim.trim_fully(script.encode(), it) for it in texts)
+                self.assertEqual(old.split(b"\n")[1:], new.split(b"\n")[1:])
+                self.assertTrue(new.startswith(b"dpoly 5\n"))
+        lines = VERSIONS[0][2].replace("/", "\n") + "\n"
+        for version in (3, 4, 6):
+            for read in (coq.theorem, trim.trim):
+                self.assertRaises(plain.checker.CertificateFault, read, SCRIPT.encode(), (header(version) + lines).encode())
 
     def test_open_boxes(self):
         from dpoly import trim

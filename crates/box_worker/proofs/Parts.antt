@@ -7,7 +7,7 @@ use Rattle.cover_model.specs.Space.{IsGridSpace}
 use Rattle.poly_graph.specs.Problem.{Problem, IsProblem}
 use Rattle.cover_model.specs.State.{State, Loosenings}
 use Rattle.cover_model.specs.Rules.{Line, cut, is_stuck_atom}
-use Rattle.cover_model.specs.Honest.{not_shown, settled, is_wide, is_middle_at, is_small, none_below}
+use Rattle.cover_model.specs.Honest.{not_shown, settled, is_wide, may_be_cut, is_middle_at, is_small, none_below}
 use Rattle.poly_graph.proofs.Bools.{not_both}
 use Rattle.cover_model.proofs.Stuck.{some_atom_is_stuck}
 use Rattle.cover_rule.specs.declared.refusal.PatchRefusal.{PatchRefusal}
@@ -16,11 +16,11 @@ use Rattle.cover_rule.specs.Models.{PatchModel}
 use Rattle.cover_rule.specs.Patch.{problem_in, loosenings_in, now_in}
 use Rattle.cover_rule.specs.Refusals.{unless, then_by, if_ended, is_decided, cut_line, cut_test, cut_refusal, cut_by, ended_if, flip_refusal, stuck_refusal}
 use Rattle.cover_rule.proofs.Helds.{neither}
-use Rattle.cover_rule.proofs.Widest.{cut_is}
-use Rattle.box_worker.specs.Attempts.{Attempts, Continues, IsDue}
+use Rattle.cover_rule.proofs.Cuts.{cut_is, widest_cuts, wide_may}
+use Rattle.box_worker.specs.Attempts.{Attempts, CutAttempt, CutAttemptAt, WidestAttempt, Continues, IsDue}
 use Rattle.box_worker.specs.Ended.{leaves_some, is_left}
 use Rattle.box_worker.proofs.Conjuncts.{some_none, open_not_ended}
-use Rattle.box_worker.proofs.Small.{small_reals, small_unless_cut}
+use Rattle.box_worker.proofs.Small.{small_reals, small_unless_wide}
 
 is-false : (b : Bool) → (IsTrue b → ⊥) → b ≡ false
 is-false true f = absurd (f refl)
@@ -53,22 +53,44 @@ flip_refused P Q done i due a = is-false (test_axis is_undecided i (now_in P).sp
 cut-passes : (P : PatchModel) → P.kept.end ≡ None → (l : Line) (o : Option Line) → o ≡ Some l → cut_test P (Some l) ≡ None → then_by (if_ended P.kept) (cut_test P o) ≡ None
 cut-passes P e l o h k = ap (λ (x : Option PatchRefusal). then_by x (cut_test P o)) (open_not_ended P e) ∙ ap (cut_test P) h ∙ k
 
-pub cut_refused : (P Q done : PatchModel) → IsDue P → Attempts (cut_refusal P) P done Q false → small_reals P.margins.least_bits (now_in P).space ≡ true
-cut_refused P Q done due a =
-    let space = (now_in P).space in let w = P.margins.least_bits in let shown = not_shown (problem_in P) (loosenings_in P) (now_in P) in let ready = settled (problem_in P) (loosenings_in P) (now_in P) in
-    small_unless_cut w space
-    (λ axis l h cuts. is-false (is_wide w axis (widest space))
-    (λ wide. some_none (cut_refusal P) a.0 (cut-passes P due.open_end (cut axis (mid l h)) (cut_line space) cuts.line
+-- where the widest axis is not cut, it is not wide
+pub widest_refused : (P Q : PatchModel) → IsDue P → WidestAttempt P Q false → small_reals P.margins.least_bits (now_in P).space ≡ true
+widest_refused P Q due a =
+    let space = (now_in P).space in let w = P.margins.least_bits in let s = loosenings_in P in
+    let shown = not_shown (problem_in P) s (now_in P) in let ready = settled (problem_in P) s (now_in P) in
+    small_unless_wide w space (λ axis e. is-false (is_wide w axis (widest space)) (λ wide.
+    let r = widest_cuts space axis e in let l = r.0 in let h = r.1 in let cuts = r.2 in
+    let b : CutAttempt axis P Q false = subst (λ (o : Option ℕ). CutAttemptAt o P Q false) e a in
+    some_none (cut_refusal P axis) b.0 (cut-passes P due.open_end (cut axis (mid l h)) (cut_line axis space) cuts.line
     (ap (λ (b : Bool). unless b NotHonest)
-    (both_pass (shown && ready && is_wide w axis (widest space)) (is_middle_at axis (mid l h) space)
-    (both_pass (shown && ready) (is_wide w axis (widest space)) (both_pass shown ready due.shown due.settled) wide) cuts.middle)))))
+    (both_pass (shown && ready && may_be_cut w s axis space) (is_middle_at axis (mid l h) space)
+    (both_pass (shown && ready) (may_be_cut w s axis space) (both_pass shown ready due.shown due.settled) (wide_may w s axis space l h cuts e wide)) cuts.middle)))))
 
-pub cut_done : (P : PatchModel) → cut_refusal P ≡ None → Continues P (cut_by P) × IsTrue (is_left (cut_by P).kept.end)
-cut_done P e = by-line (cut_line (now_in P).space) refl (neither (if_ended P.kept) (cut_test P (cut_line (now_in P).space)) e).1
+cut-done : (P : PatchModel) (axis : ℕ) → cut_refusal P axis ≡ None → Continues P (cut_by P axis) × IsTrue (is_left (cut_by P axis).kept.end)
+cut-done P axis e = by-line (cut_line axis (now_in P).space) refl (neither (if_ended P.kept) (cut_test P (cut_line axis (now_in P).space)) e).1
   where
-    by-line : (o : Option Line) → cut_line (now_in P).space ≡ o → cut_test P o ≡ None → Continues P (ended_if P o) × IsTrue (is_left (ended_if P o).kept.end)
+    by-line : (o : Option Line) → cut_line axis (now_in P).space ≡ o → cut_test P o ≡ None → Continues P (ended_if P o) × IsTrue (is_left (ended_if P o).kept.end)
     by-line None q k = cc
-    by-line (Some l) q k = (record { problem = refl; margins = refl; first = refl; quoted = refl }, subst (λ (x : Line). IsTrue (leaves_some x)) (sym (cut_is (now_in P).space l q).is) refl)
+    by-line (Some l) q k = (record { problem = refl; margins = refl; first = refl; quoted = refl }, subst (λ (x : Line). IsTrue (leaves_some x)) (sym (cut_is axis (now_in P).space l q).is) refl)
+
+unchanged : (P : PatchModel) → Continues P P
+unchanged P = record { problem = refl; margins = refl; first = refl; quoted = refl }
+
+-- what an attempt to cut an axis comes to, if there is one
+pub cut_continues : (o : Option ℕ) (P Q : PatchModel) (b : Bool) → CutAttemptAt o P Q b → Continues P Q
+cut_continues None P Q b h = subst (Continues P) (sym h.1) (unchanged P)
+cut_continues (Some axis) P Q true h = subst (Continues P) (sym h.1) (cut-done P axis h.0).0
+cut_continues (Some axis) P Q false h = subst (Continues P) (sym h.1) (unchanged P)
+
+pub cut_parted : (o : Option ℕ) (P Q : PatchModel) (b : Bool) → CutAttemptAt o P Q b → b ≡ true → IsTrue (is_left Q.kept.end)
+cut_parted None P Q b h e = absurd (true≢false (sym e ∙ h.0))
+cut_parted (Some axis) P Q true h e = subst (λ (X : PatchModel). IsTrue (is_left X.kept.end)) (sym h.1) (cut-done P axis h.0).1
+cut_parted (Some axis) P Q false h e = absurd (true≢false (sym e))
+
+pub cut_same : (o : Option ℕ) (P Q : PatchModel) (b : Bool) → CutAttemptAt o P Q b → b ≡ false → Q ≡ P
+cut_same None P Q b h e = h.1
+cut_same (Some axis) P Q true h e = absurd (true≢false e)
+cut_same (Some axis) P Q false h e = h.1
 
 -- ---- stuck states
 

@@ -1,8 +1,8 @@
 -- Where no axis can be cut, each Real axis is small.
-use Rattle.std.proofs.Common.{◌≡◌, ◌⊎◌, inl, inr, ℕ, suc, ◌+◌, ◌<◌, [], ◌∷◌, length, get_or, Bool, true, false, cond, not, ◌&&◌, IsTrue, Option, Some, None, refl, sym, ap, ◌∙◌, subst, arith, true≢false, eq-eqb}
+use Rattle.std.proofs.Common.{◌≡◌, inl, inr, ℕ, suc, ◌<◌, [], ◌∷◌, length, Bool, true, false, cond, not, ◌&&◌, IsTrue, Option, Some, None, refl, sym, ap, ◌∙◌, subst, arith, true≢false, eq-eqb}
 use Rattle.std.specs.Prelude.{nat_eq}
 use Rattle.dyadic.specs.Fraction.{Fraction, IsFraction, at_most, difference_of, negated}
-use Rattle.dyadic.specs.Rounding.{Dyadic, exact, two_to_minus}
+use Rattle.dyadic.specs.Rounding.{exact, two_to_minus}
 use Rattle.interval_model.specs.Space.{Domain, real_domain, bool_domain, Space, can_be_halved, side, better, widest_from, widest, is_undecided, test_axis}
 use Rattle.dyadic.proofs.Equal.{both_true, both_pass, through, total}
 use Rattle.interval_model.proofs.EndsProducts.{at_most_refl}
@@ -11,17 +11,6 @@ use Rattle.cover_model.specs.Honest.{is_wide, is_small_domain, is_small}
 use Rattle.cover_model.proofs.Within.{exact_is_fraction}
 use Rattle.poly_graph.proofs.Bools.{or_first, or_second}
 use Rattle.ival.specs.BestViews.{axis_of}
-use Rattle.cover_rule.specs.Refusals.{CutsAt}
-use Rattle.cover_rule.proofs.Widest.{cuts_at}
-
--- ---- the axis that is found is a Real one
-
-abbrev IsReal : Space → ℕ → Type 0
-IsReal space i = (l : Dyadic) × (h : Dyadic) × ((d : Domain) → get_or space i d ≡ real_domain l h)
-
-axis-or : Option (ℕ × Fraction) → ℕ
-axis-or None = 0
-axis-or (Some x) = x.0
 
 side-or : Fraction → Option (ℕ × Fraction) → Fraction
 side-or w None = w
@@ -30,38 +19,6 @@ side-or w (Some x) = x.1
 same-side : (x y : ℕ × Fraction) → Some x ≡ Some y → Some x.1 ≡ Some y.1
 unfolding side-or
 same-side x y e = ap (λ (o : Option (ℕ × Fraction)). Some (side-or x.1 o)) e
-
-module _ (axis : ℕ) (v : Fraction) where
-  abbrev here : Option (ℕ × Fraction)
-  here = Some (axis, v)
-
-  new-best : (n : ℕ) (w : Fraction) → (let o : Option (ℕ × Fraction) = Some (n, w) in o) ≡ here → axis ≡ n
-  unfolding axis-or
-  new-best n w e = sym (ap axis-or e)
-
-  better-if : (t : Bool) (best : ℕ) (u : Fraction) (n : ℕ) (w : Fraction) → cond t (let o : Option (ℕ × Fraction) = Some (best, u) in o) (Some (n, w)) ≡ here →
-      ((let o : Option (ℕ × Fraction) = Some (best, u) in o) ≡ here) ⊎ (axis ≡ n)
-  better-if true best u n w e = inl e
-  better-if false best u n w e = inr (new-best n w e)
-
-  better-is : (b : Option (ℕ × Fraction)) (n : ℕ) (d : Domain) → better b n (side d) ≡ here → (b ≡ here) ⊎ ((axis ≡ n) × (l : Dyadic) × (h : Dyadic) × (d ≡ real_domain l h))
-  better-is b n (bool_domain f t) e = inl e
-  better-is b n (real_domain l h) e = elim (by-side b (side (real_domain l h)) e) [ inl k ↦ inl k | inr k ↦ inr (k, l, h, refl) ]
-    where
-      by-side : (b : Option (ℕ × Fraction)) (o : Option Fraction) → better b n o ≡ here → (b ≡ here) ⊎ (axis ≡ n)
-      by-side b None e = inl e
-      by-side None (Some w) e = inr (new-best n w e)
-      by-side (Some (best, u)) (Some w) e = better-if (at_most w u) best u n w e
-
-  found-from : (n : ℕ) (b : Option (ℕ × Fraction)) (space : Space) → widest_from n b space ≡ here → (b ≡ here) ⊎ ((i : ℕ) × (axis ≡ n + i) × IsReal space i)
-  found-from n b [] e = inl e
-  found-from n b (d ∷ space) e = elim (found-from (suc n) (better b n (side d)) space e) [
-    | inl h ↦ elim (better-is b n d h) [ inl k ↦ inl k | inr k ↦ inr (0, omega (arith, k.0), (k.1, k.2, λ x. k.3)) ]
-    | inr k ↦ inr (suc k.0, omega (arith, k.1), k.2)
-  ]
-
-  found : (space : Space) → widest space ≡ here → IsReal space axis
-  found space e = elim (found-from 0 None space e) [ inl h ↦ cc | inr k ↦ let f : k.0 ≡ axis = omega (arith, k.1) in subst (IsReal space) f k.2 ]
 
 -- ---- no side is above that of the widest axis
 
@@ -140,17 +97,15 @@ small-from w n b (real_domain l h ∷ space) g f =
         (f u (widest-keeps (suc n) (better b n (side (real_domain l h))) space u
         (subst (λ (o : Option Fraction). AtMost (better b n o) u) (sym k) (better-takes b n u (side-good (real_domain l h) u k) (λ x y. y) g))))
 
--- what is found is not wide, or can be cut
-pub small_unless_cut : (w : ℕ) (space : Space) → ((axis : ℕ) (l h : Dyadic) → CutsAt w space axis l h → is_wide w axis (widest space) ≡ false) → small_reals w space ≡ true
-small_unless_cut w space f = small-from w 0 None space (λ axis v e. cc) (λ u h. by-widest (widest space) refl u h)
+-- the widest axis is not wide
+pub small_unless_wide : (w : ℕ) (space : Space) → ((axis : ℕ) → axis_of (widest space) ≡ Some axis → is_wide w axis (widest space) ≡ false) → small_reals w space ≡ true
+small_unless_wide w space f = small-from w 0 None space (λ axis v e. cc) (λ u h. by-widest (widest space) refl u h)
   where
     by-widest : (o : Option (ℕ × Fraction)) → widest space ≡ o → (u : Fraction) → AtMost o u → IsTrue (at_most u (exact (two_to_minus w)))
     by-widest None e u h = absurd h
     by-widest (Some (axis, v)) e u h =
-        let r = found axis v space e in
-        let k = f axis r.0 r.1 (cuts_at w space axis (ap axis_of e) r.0 r.1 r.2) in
         through u v (exact (two_to_minus w)) h.1 h.0
-        (narrow (nat_eq axis axis) (at_most v (exact (two_to_minus w))) (eq-eqb axis axis refl) (sym (ap (is_wide w axis) e) ∙ k))
+        (narrow (nat_eq axis axis) (at_most v (exact (two_to_minus w))) (eq-eqb axis axis refl) (sym (ap (is_wide w axis) e) ∙ f axis (ap axis_of e)))
       where
         narrow : (x y : Bool) → IsTrue x → (x && not y) ≡ false → IsTrue y
         narrow true true h k = refl

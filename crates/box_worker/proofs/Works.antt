@@ -1,5 +1,5 @@
 -- What work comes to.
-use Rattle.std.proofs.Common.{◌≡◌, ◌⊎◌, inl, inr, ℕ, zero, suc, List, [], ◌∷◌, Bool, true, false, cond, not, ◌&&◌, IsTrue, Option, Some, None, refl, ap, sym, ◌∙◌, subst, arith, true≢false}
+use Rattle.std.proofs.Common.{◌≡◌, ◌⊎◌, inl, inr, zero, suc, List, [], ◌∷◌, Bool, true, false, cond, not, ◌&&◌, IsTrue, Option, Some, None, refl, ap, sym, ◌∙◌, subst, arith, true≢false}
 use Rattle.std.specs.Prelude.{Contains, Result, Ok, Err, IfOk}
 use Rattle.std.specs.declared.alloc.AllocError.{AllocError}
 use Rattle.dyadic.proofs.Equal.{both_true}
@@ -11,7 +11,6 @@ use Rattle.cover_model.specs.Rules.{Line, make_false, narrow_by, end_by, mark_by
 use Rattle.cover_model.specs.Fits.{IsShownAt}
 use Rattle.poly_graph.proofs.Bools.{not_both}
 use Rattle.cover_data.specs.declared.margins.Margins.{Margins}
-use Rattle.cover_data.specs.declared.margins.Options.{Options}
 use Rattle.cover_data.specs.Margins.{loosenings_of}
 use Rattle.cover_data.specs.Models.{LemmaModel, KeptModel}
 use Rattle.cover_rule.specs.Models.{PatchModel}
@@ -26,7 +25,7 @@ use Rattle.box_worker.specs.declared.worked.Worked.{Worked}
 use Rattle.box_worker.specs.declared.worked.Worked.TheVariants.{Patch, Closed, Point}
 use Rattle.box_worker.specs.Attempts.{AreAmong}
 use Rattle.box_worker.specs.Ended.{first_covering, leaves_some, is_left, AtOnce, ComesToEnd}
-use Rattle.box_worker.specs.Worked.{margins_of, IsRunFrom, IsLearned, IsMiddleFrom, IsWork, IsClosedBy, IsPointAt, IsLeftOpen, AnswersAtOnce, IsEndPoint, WorkOf, teaches_nothing}
+use Rattle.box_worker.specs.Worked.{IsRunFrom, IsLearned, IsMiddleFrom, IsWork, IsClosedBy, IsPointAt, IsLeftOpen, AnswersAtOnce, IsEndPoint, WorkOf, teaches_nothing}
 use Rattle.box_worker.proofs.Open.{none_among}
 
 -- ---- the first lemma that covers
@@ -112,12 +111,6 @@ at_once_problem lemmas P Q ended.Closed (inr a) = ap (λ (X : PatchModel). X.pro
 at_once_problem lemmas P Q ended.Parted a = absurd a
 at_once_problem lemmas P Q (ended.Found x) a = absurd a
 at_once_problem lemmas P Q (ended.Shown x) a = ap (λ (X : PatchModel). X.problem) a.0
-
-pub margins_are : (m : Margins) (o : Options) → m.delta_bits ≡ o.delta_bits → m.margin_bits ≡ o.margin_bits → m.least_bits ≡ o.least_bits → m ≡ margins_of o
-margins_are m o e f g =
-    subst (λ (k : ℕ). m ≡ record { delta_bits = o.delta_bits; margin_bits = o.margin_bits; least_bits = k }) g
-    (subst (λ (k : ℕ). m ≡ record { delta_bits = o.delta_bits; margin_bits = k; least_bits = m.least_bits }) f
-    (subst (λ (k : ℕ). m ≡ record { delta_bits = k; margin_bits = m.margin_bits; least_bits = m.least_bits }) e refl))
 
 module _ (q : Parts) (m : Margins) (lemmas : List LemmaModel) (S : State) where
   abbrev can : Bool

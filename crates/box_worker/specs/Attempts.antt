@@ -1,7 +1,8 @@
 -- Attempts at a step or an end of a patch, and what stays the same as a patch goes on.
-use Rattle.std.specs.Prelude.{◌≡◌, ℕ, ◌<◌, length, List, [], ◌∷◌, Bool, true, false, not, ◌&&◌, Option, None, IsSome, All, Contains}
+use Rattle.std.specs.Prelude.{◌≡◌, ℕ, ◌<◌, length, List, [], ◌∷◌, Bool, true, false, not, ◌&&◌, Option, Some, None, IsSome, All, Contains}
 use Rattle.poly_graph.specs.ProblemViews.{Parts}
-use Rattle.interval_model.specs.Space.{is_undecided, test_axis}
+use Rattle.interval_model.specs.Space.{is_undecided, test_axis, widest}
+use Rattle.ival.specs.BestViews.{axis_of}
 use Rattle.cover_model.specs.State.{State, undecided}
 use Rattle.cover_model.specs.Honest.{not_shown, settled, conjuncts, none_empty}
 use Rattle.cover_data.specs.declared.margins.Margins.{Margins}
@@ -31,8 +32,17 @@ FalseAttempt P Q = Attempts (false_refusal P) P (ended_with P make_false) Q
 abbrev pub LemmaAttempt : LemmaModel → PatchModel → PatchModel → Bool → Type 0
 LemmaAttempt L P Q = Attempts (by_refusal P.kept L) P (covered_by P L) Q
 
-abbrev pub CutAttempt : PatchModel → PatchModel → Bool → Type 0
-CutAttempt P Q = Attempts (cut_refusal P) P (cut_by P) Q
+abbrev pub CutAttempt : ℕ → PatchModel → PatchModel → Bool → Type 0
+CutAttempt axis P Q = Attempts (cut_refusal P axis) P (cut_by P axis) Q
+
+-- that of an axis, if there is one; else nothing was done
+abbrev pub CutAttemptAt : Option ℕ → PatchModel → PatchModel → Bool → Type 0
+CutAttemptAt None P Q b = (b ≡ false) × (Q ≡ P)
+CutAttemptAt (Some axis) P Q b = CutAttempt axis P Q b
+
+-- that of the widest axis
+abbrev pub WidestAttempt : PatchModel → PatchModel → Bool → Type 0
+WidestAttempt P Q b = CutAttemptAt (axis_of (widest (now_in P).space)) P Q b
 
 abbrev pub FlipAttempt : ℕ → PatchModel → PatchModel → Bool → Type 0
 FlipAttempt axis P Q = Attempts (flip_refusal P axis) P (ended_with P (flip axis)) Q

@@ -5,7 +5,7 @@ use Rattle.poly_graph.specs.ProblemViews.{Parts, problem_of}
 use Rattle.interval_model.specs.Space.{Space, middle, space_within}
 use Rattle.cover_model.specs.State.{State, Loosenings, IsLemma, covers, may, sure}
 use Rattle.cover_model.specs.Honest.{not_shown}
-use Rattle.cover_model.specs.Rules.{Line, make_false, by, end_by, false_form, by_lemma}
+use Rattle.cover_model.specs.Rules.{Line, make_false, end_by, false_form, by_lemma}
 use Rattle.cover_model.specs.Fits.{FitsProblem, IsShownAt}
 use Rattle.cover_data.specs.declared.margins.Margins.{Margins}
 use Rattle.cover_data.specs.declared.margins.Options.{Options}

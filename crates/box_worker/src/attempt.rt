@@ -8,7 +8,7 @@ ghost use Rattle.cover_rule.specs.Patch.{problem_in, loosenings_in};
 ghost use Rattle.cover_rule.specs.Models.{PatchModel};
 ghost use Rattle.cover_rule.specs.Narrowers.{NamesAtom, narrowing_of};
 ghost use Rattle.cover_rule.specs.Refusals.{EndAnswer, PatchAnswer};
-ghost use Rattle.box_worker.specs.Attempts.{Attempts, UnitAttempt, VoidAttempt, FalseAttempt, LemmaAttempt, CutAttempt, FlipAttempt, CaseAttempt, StuckAttempt};
+ghost use Rattle.box_worker.specs.Attempts.{Attempts, UnitAttempt, VoidAttempt, FalseAttempt, LemmaAttempt, CutAttempt, WidestAttempt, FlipAttempt, CaseAttempt, StuckAttempt};
 
 use cover_rule::{Lemma, Narrower, Patch, PatchRefusal};
 use std::alloc::AllocError;
@@ -85,12 +85,22 @@ pub fn by(patch: &mut Patch, lemma: &Lemma) -> Result<bool, AllocError>
     was_done(answer)
 }
 
-/// Ends the patch by cutting the widest axis, where it is wide and nothing else is left to do.
-pub fn cut(patch: &mut Patch) -> bool
-    ensures { CutAttempt patch.old patch.new result }
+/// Ends the patch by cutting the axis, where it may be cut and nothing else is left to do.
+pub fn cut(patch: &mut Patch, axis: u32) -> bool
+    ensures { CutAttempt axis patch.old patch.new result }
 {
-    let answer = patch.cut();
+    let answer = patch.cut(axis);
     was_ended(answer)
+}
+
+/// Ends the patch by cutting the widest axis, where it is wide and nothing else is left to do.
+pub fn cut_widest(patch: &mut Patch) -> bool
+    ensures { WidestAttempt patch.old patch.new result }
+{
+    match patch.widest() {
+        Some(axis) => cut(patch, axis),
+        None => false,
+    }
 }
 
 /// Ends the patch by parting the axis where it is a Bool that is not decided, and nothing else is left to do.

@@ -49,7 +49,7 @@ pub fn part(patch: &mut Patch)
     ensures left { IsTrue (is_left patch.new.kept.end) }
 {
     run_is_lawful(patch);
-    if attempt::cut(patch) {
+    if attempt::cut_widest(patch) {
         return;
     }
     if flip_any(patch) {

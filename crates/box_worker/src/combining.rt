@@ -11,8 +11,22 @@ use ival::{Domain, Space};
 use relaxation::{Elimination, Refutation, Relaxation, Side, are_many_equations, is_asking};
 use std::alloc::{AllocError, Global};
 
-// Whether the enclosure of atom j, which is marked, does not lie where the mark asks for.
-fn is_asking_at(patch: &Patch, j: usize) -> bool {
+// The most pairs of a combination in versions of the format before 5, and from then on.
+const MOST_PAIRS_AT_FIRST: usize = 64;
+
+const MOST_PAIRS: usize = 512;
+
+// The most pairs that a combination in the patch may have.
+fn most_pairs(patch: &Patch) -> usize {
+    if patch.margins().version >= 5 {
+        MOST_PAIRS
+    } else {
+        MOST_PAIRS_AT_FIRST
+    }
+}
+
+/// Whether atom j is marked, and its enclosure does not lie where the mark asks for.
+pub fn is_asking_at(patch: &Patch, j: usize) -> bool {
     let margin_bits = patch.margins().margin_bits;
     let lits = patch.reached().lits();
     is_asking(patch.problem(), margin_bits, lits, patch.rows(), j)
@@ -96,6 +110,7 @@ impl<'a, 'b> Contraction<'a, 'b> {
         Elimination::of(
             self.alloc,
             patch.problem(),
+            most_pairs(patch),
             margin_bits,
             state.lits(),
             state.space(),

@@ -1,13 +1,13 @@
-// Branches at an atom or a Bool axis that was chosen, or at the widest axis.
+// Branches at an atom or an axis that was chosen.
 ghost use Rattle.std.specs.Prelude.{◌≡◌, IfOk, IsTrue, true, false, None};
 ghost use Rattle.box_worker.specs.Attempts.{Continues};
 ghost use Rattle.box_worker.specs.Ended.{is_left};
 
-use crate::attempt;
 use crate::choice::{Choice, choose, is_open};
 use crate::heuristics::Heuristics;
 use crate::needs::Needs;
 use crate::worth::worths;
+use crate::{attempt, axis};
 use cover_rule::Patch;
 use std::alloc::{AllocError, Global};
 
@@ -60,8 +60,7 @@ fn needs(alloc: Global, heuristics: &mut Heuristics, patch: &Patch) -> Result<Ne
     needs
 }
 
-// Parts the state by what is needed: at a disjunction with two children left, else at the widest axis, else at any
-// disjunction.
+// Parts the state by what is needed: at a disjunction with two children left, else by a cut, else at any disjunction.
 fn part_by_needs(
     alloc: Global,
     needs: &Needs,
@@ -75,15 +74,15 @@ fn part_by_needs(
     if part_by_form(alloc, needs, worths, 2, patch)? {
         return Ok(true);
     }
-    if attempt::cut(patch) {
+    if axis::cut(alloc, patch)? {
         return Ok(true);
     }
     part_by_form(alloc, needs, worths, u32::MAX, patch)
 }
 
 /// Parts the state where nothing else is left to do: at a Bool axis that is needed at one value, or at an atom or
-/// axis of a needed disjunction with two children left; else at the widest axis; else at an atom or axis of any
-/// needed disjunction.
+/// axis of a needed disjunction with two children left; else by a cut; else at an atom or axis of any needed
+/// disjunction.
 pub fn split(
     alloc: Global,
     heuristics: &mut Heuristics,
@@ -94,7 +93,7 @@ pub fn split(
     ensures same { IfOk result (λ b. b ≡ false → patch.new ≡ patch.old) }
 {
     if !is_open(patch.reached()) {
-        return Ok(attempt::cut(patch));
+        return axis::cut(alloc, patch);
     }
     let needs = needs(alloc, heuristics, patch)?;
     let worths = worths(alloc, patch)?;

@@ -3,7 +3,7 @@ ghost use Rattle.std.specs.Prelude.{◌≡◌, ◌<◌, ◌||◌, length, IsTrue
 ghost use Rattle.dyadic.specs.Views.{dyadic_of};
 ghost use Rattle.interval_model.specs.Interval.{misses_nought};
 ghost use Rattle.cover_model.specs.Combination.{only};
-ghost use Rattle.cover_model.specs.Rules.{are_combinable, are_ordered, can_combine, in_no_one_sided, is_combination};
+ghost use Rattle.cover_model.specs.Rules.{are_combinable, are_ordered, can_combine, in_no_one_sided, is_combination, most_pairs};
 ghost use Rattle.cover_model.specs.State.{in_yes};
 ghost use Rattle.cover_model.specs.Views.{multipliers_of};
 ghost use Rattle.cert_model.specs.Due.{are_atoms};
@@ -17,8 +17,12 @@ use crate::tools::is_inequality;
 use dyadic::{Dy, Ext, Sign, sign_of};
 use poly_graph::Problem;
 
-// As many atoms may stand in a combination.
-const MOST: usize = 64;
+// A combination has at most so many pairs.
+fn most_pairs(s: Loosenings) -> usize
+    ensures { result ≡ most_pairs (loosenings_of s) }
+{
+    if 5 <= s.version { 512 } else { 64 }
+}
 
 // Whether the number is not 0.
 fn is_some(number: Dy) -> bool
@@ -84,6 +88,14 @@ fn are_combinable(problem: &Problem, state: &State, pairs: &[(u32, Dy)]) -> bool
     true
 }
 
+// Whether these are pairs in order, one or more, and no more than the version has.
+fn is_combination(s: Loosenings, pairs: &[(u32, Dy)]) -> bool
+    ensures { result ≡ is_combination (loosenings_of s) (multipliers_of pairs.now) }
+{
+    let most = most_pairs(s);
+    !pairs.is_empty() && pairs.len() <= most && are_ordered(pairs)
+}
+
 /// Whether the atoms may be combined at the state.
 pub fn can_combine(problem: &Problem, s: Loosenings, state: &State, pairs: &[(u32, Dy)]) -> bool
     requires fits { Fits problem.now (state_of state.now) }
@@ -91,9 +103,5 @@ pub fn can_combine(problem: &Problem, s: Loosenings, state: &State, pairs: &[(u3
     ensures { result ≡ can_combine (problem_of problem.now) (loosenings_of s)
         (state_of state.now) (multipliers_of pairs.now) }
 {
-    2 <= s.version
-        && !pairs.is_empty()
-        && pairs.len() <= MOST
-        && are_ordered(pairs)
-        && are_combinable(problem, state, pairs)
+    2 <= s.version && is_combination(s, pairs) && are_combinable(problem, state, pairs)
 }

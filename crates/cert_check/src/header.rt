@@ -25,14 +25,14 @@ fn after_version(version: u32) -> Result<Due, Refusal>
     ensures comes { IsNextAnywhere VersionDue (VersionLine version) result }
     ensures sound { (p : Parts) → IfOk result (IsSound p) }
 {
-    if version == 1 || version == 2 {
+    if version == 1 || version == 2 || version == 5 {
         Ok(Due::Margin(version))
     } else {
         Err(Refusal::BadHeader)
     }
 }
 
-/// `dpoly`, with a version that is read: 1 or 2.
+/// `dpoly`, with a version that is read: 1, 2 or 5.
 pub fn version_line(line: &Line) -> Result<Due, Refusal>
     ensures comes { IsNextAnywhere VersionDue (line_of line.now) result }
     ensures sound { (p : Parts) → IfOk result (IsSound p) }

@@ -1,7 +1,8 @@
 // The lines of certificates of several checks.
-ghost use Rattle.std.specs.Prelude.{◌<◌, ◌-◌, ◌^◌, ℕ, Option, IfOk};
+ghost use Rattle.std.specs.Prelude.{◌≡◌, ◌<◌, ◌-◌, ◌^◌, ℕ, Option, IfOk};
 ghost use Rattle.cert_read.specs.CertLine.{keep as KeepLine, point_word as PointLine};
 ghost use Rattle.cert_read.specs.Views.{line_of};
+ghost use Rattle.cert_model.specs.Session.{is_session_version};
 ghost use Rattle.cert_check.specs.declared.work.Work.TheVariants.{Alone as AloneWork, Checks as ChecksWork, First as FirstWork, Header as HeaderWork, Inside as InsideWork, Keep as KeepWork, Part as PartWork};
 ghost use Rattle.cert_check.specs.declared.due.Due.TheVariants.{Version as VersionDue};
 ghost use Rattle.cert_check.specs.declared.part.Part.{Part as PartInWork};
@@ -19,8 +20,12 @@ use crate::work::Work;
 use cert_read::Line;
 use std::alloc::Global;
 
-// The version of certificates of several checks.
-const SESSION_VERSION: u32 = 3;
+// Whether it is a version of certificates of several checks.
+fn is_session_version(version: u32) -> bool
+    ensures { result ≡ is_session_version version }
+{
+    version == 3 || version == 5
+}
 
 // What is due in a header, where this is so in that of one check.
 fn in_header(due: Due) -> Work
@@ -33,7 +38,7 @@ fn in_header(due: Due) -> Work
     }
 }
 
-// `dpoly`, with the version of certificates of several checks.
+// `dpoly`, with a version of certificates of several checks.
 fn version_line(_part: &Part<'_>, line: &Line) -> Result<Work, Refusal>
     requires sound { IsSoundWork _part.now (HeaderWork VersionDue) }
     ensures comes { (bound : Option ℕ) →
@@ -42,7 +47,7 @@ fn version_line(_part: &Part<'_>, line: &Line) -> Result<Work, Refusal>
 {
     match line {
         Line::Version(version) => {
-            if *version == SESSION_VERSION {
+            if is_session_version(*version) {
                 Ok(Work::Header(Due::Margin(*version)))
             } else {
                 Err(Refusal::BadHeader)

@@ -1,16 +1,15 @@
 -- Certificates whose first lines are read one after the other.
-use Rattle.std.proofs.Common.{◌≡◌, ◌≢◌, ◌<◌, ◌≤◌, ◌+◌, ◌*◌, ℕ, zero, suc, List, [], ◌∷◌, ◌++◌, append_assoc, Option, Some, None, Result, Ok, Err, length, take, drop, map, get_or, refl, ap, sym, ◌∙◌, subst, inl, inr, arith}
-use Rattle.std.specs.Prelude.{slice_get, slice_set, unwrap_or, codes, OnOk}
+use Rattle.std.proofs.Common.{◌≡◌, ◌≢◌, ◌<◌, ◌≤◌, ◌+◌, ◌*◌, ℕ, zero, suc, List, [], ◌∷◌, ◌++◌, append_assoc, Bool, true, false, cond, Option, Some, None, Result, Ok, Err, length, take, drop, map, get_or, refl, ap, sym, ◌∙◌, subst, inl, inr, arith}
+use Rattle.std.specs.Prelude.{nat_eq, slice_get, slice_set, unwrap_or, OnOk}
 use Rattle.std.specs.List.{AllByRecursion}
 use Rattle.std.proofs.lemmas.Bool.Decides.{eqb_tells}
 use Rattle.std.proofs.lemmas.Bool.{cases_lt}
 use Rattle.std.proofs.lemmas.Option.{slice_get_within}
-use Rattle.std.proofs.lemmas.Fmt.{decimal_digit}
 use Rattle.std.specs.declared.alloc.AllocError.{AllocError}
 use Rattle.cert_read.specs.CertLine.{CertLine, Parsed, parsed, line, version, margin, delta, bound, cover}
 use Rattle.cert_read.specs.LineText.{line_text, IsSpelled, text_of_lines}
 use Rattle.cert_read.proofs.Spelled.{spelled_line}
-use Rattle.cert_joined.specs.Covers.{Cover, IsTextOf, AreTextsOf}
+use Rattle.cert_joined.specs.Covers.{Cover, IsTextOf, AreTextsOf, joined_version, versions}
 use Rattle.cert_join.specs.declared.heads.Heads.{Heads}
 use Rattle.cert_join.specs.declared.joiner.Step.{Step}
 use Rattle.cert_join.specs.declared.joiner.Step.TheVariants.{Read, On, Over}
@@ -18,7 +17,7 @@ use Rattle.cert_join.specs.declared.stop.Unjoined.{Unjoined}
 use Rattle.cert_join.specs.Ahead.{AreBefore}
 use Rattle.cert_join.specs.Spot.{Spot, IsBefore, IsFirst, line_in}
 use Rattle.cert_join.specs.Written.{text_of, behind_header}
-use Rattle.cert_join.specs.Heads.{all_lines, ahead_of, lines_read, IsKept, margin_line, delta_line, bound_line, HasRead, IsReading, TakesText, TakesLine, IsBehind, HasReadOf, ReadsOf, ReadsHeads, AreAlike, head_lines, head_text, AreHeadsRead}
+use Rattle.cert_join.specs.Heads.{all_lines, ahead_of, firsts, lines_read, IsKept, margin_line, delta_line, bound_line, HasRead, IsReading, TakesText, TakesLine, IsBehind, HasReadOf, ReadsOf, ReadsHeads, AreAlike, head_lines, head_text, AreHeadsRead}
 
 -- ---- places
 
@@ -72,17 +71,18 @@ at_end (suc part) row (c ∷ covers) (cert ∷ certs) (s ∷ spots) t b h =
 -- line `row` of the first five, as bytes
 record IsLine (c : Cover) (row : ℕ) (l : List ℕ) : Type 0 where
   ahead : drop row (all_lines c) ≡ l ∷ drop (suc row) (all_lines c)
+  version : row ≡ 0 → l ≡ line_text (version c.version)
   margin : row ≡ 1 → l ≡ line_text (margin_line c)
   delta : row ≡ 2 → l ≡ line_text (delta_line c)
   bound : row ≡ 3 → l ≡ line_text (bound_line c)
   cover : 4 ≤ row → l ≡ line_text (cover (length c.lemmas))
 
 is_line : (c : Cover) (row : ℕ) → row < 5 → (l : List ℕ) × IsLine c row l
-is_line c zero h = (line_text (version c.version), record { ahead = refl; margin = λ e. absurd (omega (arith, e)); delta = λ e. absurd (omega (arith, e)); bound = λ e. absurd (omega (arith, e)); cover = λ e. absurd (omega (arith, e)) })
-is_line c (suc zero) h = (line_text (margin_line c), record { ahead = refl; margin = λ e. refl; delta = λ e. absurd (omega (arith, e)); bound = λ e. absurd (omega (arith, e)); cover = λ e. absurd (omega (arith, e)) })
-is_line c (suc (suc zero)) h = (line_text (delta_line c), record { ahead = refl; margin = λ e. absurd (omega (arith, e)); delta = λ e. refl; bound = λ e. absurd (omega (arith, e)); cover = λ e. absurd (omega (arith, e)) })
-is_line c (suc (suc (suc zero))) h = (line_text (bound_line c), record { ahead = refl; margin = λ e. absurd (omega (arith, e)); delta = λ e. absurd (omega (arith, e)); bound = λ e. refl; cover = λ e. absurd (omega (arith, e)) })
-is_line c (suc (suc (suc (suc zero)))) h = (line_text (cover (length c.lemmas)), record { ahead = refl; margin = λ e. absurd (omega (arith, e)); delta = λ e. absurd (omega (arith, e)); bound = λ e. absurd (omega (arith, e)); cover = λ e. refl })
+is_line c zero h = (line_text (version c.version), record { ahead = refl; version = λ e. refl; margin = λ e. absurd (omega (arith, e)); delta = λ e. absurd (omega (arith, e)); bound = λ e. absurd (omega (arith, e)); cover = λ e. absurd (omega (arith, e)) })
+is_line c (suc zero) h = (line_text (margin_line c), record { ahead = refl; version = λ e. absurd (omega (arith, e)); margin = λ e. refl; delta = λ e. absurd (omega (arith, e)); bound = λ e. absurd (omega (arith, e)); cover = λ e. absurd (omega (arith, e)) })
+is_line c (suc (suc zero)) h = (line_text (delta_line c), record { ahead = refl; version = λ e. absurd (omega (arith, e)); margin = λ e. absurd (omega (arith, e)); delta = λ e. refl; bound = λ e. absurd (omega (arith, e)); cover = λ e. absurd (omega (arith, e)) })
+is_line c (suc (suc (suc zero))) h = (line_text (bound_line c), record { ahead = refl; version = λ e. absurd (omega (arith, e)); margin = λ e. absurd (omega (arith, e)); delta = λ e. absurd (omega (arith, e)); bound = λ e. refl; cover = λ e. absurd (omega (arith, e)) })
+is_line c (suc (suc (suc (suc zero)))) h = (line_text (cover (length c.lemmas)), record { ahead = refl; version = λ e. absurd (omega (arith, e)); margin = λ e. absurd (omega (arith, e)); delta = λ e. absurd (omega (arith, e)); bound = λ e. absurd (omega (arith, e)); cover = λ e. refl })
 is_line c (suc (suc (suc (suc (suc row))))) h = absurd (omega (arith, h))
 
 first_same : (l m : List ℕ) (ls ms : List (List ℕ)) → l ∷ ls ≡ m ∷ ms → l ≡ m
@@ -149,6 +149,32 @@ take_one_more [] part c e = absurd (none_some c e)
 take_one_more (d ∷ covers) zero c e = ap (λ (x : Cover). length x.lemmas ∷ []) (some_same d c e)
 take_one_more (d ∷ covers) (suc part) c e = ap (λ (xs : List ℕ). length d.lemmas ∷ xs) (take_one_more covers part c e)
 
+-- ---- versions
+
+either-order : (t u : Bool) (n : ℕ) → cond t 5 (cond u 5 n) ≡ cond u 5 (cond t 5 n)
+either-order true true n = refl
+either-order true false n = refl
+either-order false true n = refl
+either-order false false n = refl
+
+version-of-more : (covers : List Cover) (part : ℕ) (c : Cover) → slice_get covers part ≡ Some c →
+    joined_version (versions (take (suc part) covers)) ≡ cond (nat_eq c.version 5) 5 (joined_version (versions (take part covers)))
+version-of-more [] part c e = absurd (none_some c e)
+version-of-more (d ∷ covers) zero c e = ap (λ (x : Cover). cond (nat_eq x.version 5) 5 2) (some_same d c e)
+version-of-more (d ∷ covers) (suc part) c e =
+    ap (λ (n : ℕ). cond (nat_eq d.version 5) 5 n) (version-of-more covers part c e)
+    ∙ either-order (nat_eq d.version 5) (nat_eq c.version 5) (joined_version (versions (take part covers)))
+
+-- once the first line of one more certificate was read, and behind each later one
+version-behind : (covers : List Cover) (c : Cover) (part row old new : ℕ) → slice_get covers part ≡ Some c → old ≡ joined_version (versions (take (firsts part row) covers)) →
+    (row ≡ 0 → new ≡ cond (nat_eq c.version 5) 5 old) → (0 < row → new ≡ old) → new ≡ joined_version (versions (take (suc part) covers))
+version-behind covers c part zero old new e h f g = f refl ∙ ap (λ (n : ℕ). cond (nat_eq c.version 5) 5 n) h ∙ sym (version-of-more covers part c e)
+version-behind covers c part (suc row) old new e h f g = g (omega arith) ∙ h
+
+firsts-many : (part row : ℕ) → part ≤ firsts part row
+firsts-many part zero = omega arith
+firsts-many part (suc row) = omega arith
+
 -- ---- all lines
 
 all_by_get : (P : Cover → Type 0) (covers : List Cover) → ((i : ℕ) (c : Cover) → slice_get covers i ≡ Some c → P c) → AllByRecursion P covers
@@ -208,13 +234,16 @@ alike covers certs h t r n c e = let m : 5 * length covers ≤ lines_read h = om
       (kept_same bound_line 3 covers certs (lines_read h) h.bound.items (omega arith) m t (λ d cert x. x.spelled.1.1.1.0) r.bound c e);
 }
 
-texts : (covers : List Cover) (h : Heads) → HasRead covers h → length covers ≤ h.part → (c : Cover) → slice_get covers 0 ≡ Some c → head_text h ≡ text_of (head_lines c)
+texts : (covers : List Cover) (h : Heads) → HasRead covers h → length covers ≤ h.part → (c : Cover) → slice_get covers 0 ≡ Some c → head_text h ≡ text_of (head_lines covers c)
 texts covers h r n c e =
     let w = slice_get_within covers 0 c e in
     let m : 3 < lines_read h = omega (arith, w, n) in
-    ap (λ (x : List ℕ). text_of_lines (line_text (version 2) ∷ x ∷ h.delta.items ∷ h.bound.items ∷ [])) (r.margin.kept 0 c e (omega (arith, m)))
-    ∙ ap (λ (x : List ℕ). text_of_lines (line_text (version 2) ∷ line_text (margin_line c) ∷ x ∷ h.bound.items ∷ [])) (r.delta.kept 0 c e (omega (arith, m)))
-    ∙ ap (λ (x : List ℕ). text_of_lines (line_text (version 2) ∷ line_text (margin_line c) ∷ line_text (delta_line c) ∷ x ∷ [])) (r.bound.kept 0 c e (omega (arith, m)))
+    let v : ℕ = joined_version (versions covers) in
+    ap (λ (k : ℕ). text_of_lines (line_text (version k) ∷ h.margin.items ∷ h.delta.items ∷ h.bound.items ∷ []))
+    (r.version ∙ ap (λ (cs : List Cover). joined_version (versions cs)) (take_whole covers (firsts h.part h.row) (omega (arith, n, firsts-many h.part h.row))))
+    ∙ ap (λ (x : List ℕ). text_of_lines (line_text (version v) ∷ x ∷ h.delta.items ∷ h.bound.items ∷ [])) (r.margin.kept 0 c e (omega (arith, m)))
+    ∙ ap (λ (x : List ℕ). text_of_lines (line_text (version v) ∷ line_text (margin_line c) ∷ x ∷ h.bound.items ∷ [])) (r.delta.kept 0 c e (omega (arith, m)))
+    ∙ ap (λ (x : List ℕ). text_of_lines (line_text (version v) ∷ line_text (margin_line c) ∷ line_text (delta_line c) ∷ x ∷ [])) (r.bound.kept 0 c e (omega (arith, m)))
 
 -- the first lines of all were read
 pub all_read : (certs : List (List ℕ)) (covers : List Cover) (h : Heads) (spots : List Spot) →
@@ -232,40 +261,44 @@ all_read certs covers h spots t r n = let a = at_end h.part h.row covers certs s
 -- what was read, one line later
 read_more : (cert : List ℕ) (covers : List Cover) (c : Cover) (old mid new : Heads) (l : List ℕ) →
     IsTextOf c cert → slice_get covers old.part ≡ Some c → HasRead covers old → IsLine c old.row l → TakesLine l old mid → IsBehind mid new → HasRead covers new
-read_more cert covers c old mid new l t e r i k b = elim (cases_lt old.row 4) [
-  | inl early ↦
-      let lt : mid.row < 4 = omega (arith, k.row, early) in
-      let n : lines_read (record mid { row = suc mid.row }) ≡ suc (lines_read old) = omega (arith, k.row, k.part) in
-      let more : HasRead covers (record mid { row = suc mid.row }) = record {
-        row = omega (arith, lt);
-        margin = subst (λ (x : ℕ). IsKept margin_line 1 covers x mid.margin.items) (sym n)
-            (keeps margin_line 1 old.part old.row (lines_read old) covers c l old.margin.items mid.margin.items r.row (omega arith) refl e r.margin k.margin i.margin);
-        delta = subst (λ (x : ℕ). IsKept delta_line 2 covers x mid.delta.items) (sym n)
-            (keeps delta_line 2 old.part old.row (lines_read old) covers c l old.delta.items mid.delta.items r.row (omega arith) refl e r.delta k.delta i.delta);
-        bound = subst (λ (x : ℕ). IsKept bound_line 3 covers x mid.bound.items) (sym n)
-            (keeps bound_line 3 old.part old.row (lines_read old) covers c l old.bound.items mid.bound.items r.row (omega arith) refl e r.bound k.bound i.bound);
-        point = (k.early early).0 ∙ r.point;
-        counts = (k.early early).1 ∙ r.counts ∙ ap (λ (x : ℕ). map (λ (y : Cover). length y.lemmas) (take x covers)) (sym k.part);
-      } in
-      subst (HasRead covers) (sym (b.0 lt)) more
-  | inr late ↦
-      let le : 4 ≤ mid.row = omega (arith, k.row, late) in
-      let n : lines_read (record mid { part = suc mid.part; row = 0 }) ≡ suc (lines_read old) = omega (arith, k.part, r.row, late) in
-      let last = k.last late (length c.lemmas) t.spelled.1.1.1.1.0.0 (i.cover late) in
-      let more : HasRead covers (record mid { part = suc mid.part; row = 0 }) = record {
-        row = omega arith;
-        margin = subst (λ (x : ℕ). IsKept margin_line 1 covers x mid.margin.items) (sym n)
-            (keeps margin_line 1 old.part old.row (lines_read old) covers c l old.margin.items mid.margin.items r.row (omega arith) refl e r.margin k.margin i.margin);
-        delta = subst (λ (x : ℕ). IsKept delta_line 2 covers x mid.delta.items) (sym n)
-            (keeps delta_line 2 old.part old.row (lines_read old) covers c l old.delta.items mid.delta.items r.row (omega arith) refl e r.delta k.delta i.delta);
-        bound = subst (λ (x : ℕ). IsKept bound_line 3 covers x mid.bound.items) (sym n)
-            (keeps bound_line 3 old.part old.row (lines_read old) covers c l old.bound.items mid.bound.items r.row (omega arith) refl e r.bound k.bound i.bound);
-        point = last.0 ∙ r.point;
-        counts = last.1 ∙ ap (λ (x : List ℕ). x ++ (length c.lemmas ∷ [])) r.counts ∙ sym (take_one_more covers old.part c e)
-            ∙ ap (λ (x : ℕ). map (λ (y : Cover). length y.lemmas) (take (suc x) covers)) (sym k.part);
-      } in
-      subst (HasRead covers) (sym (b.1 le)) more
-]
+read_more cert covers c old mid new l t e r i k b =
+    let version-read = version-behind covers c old.part old.row old.version mid.version e r.version (λ z. k.version z c.version t.spelled.0.0 (i.version z)) k.same_version in
+    elim (cases_lt old.row 4) [
+      | inl early ↦
+          let lt : mid.row < 4 = omega (arith, k.row, early) in
+          let n : lines_read (record mid { row = suc mid.row }) ≡ suc (lines_read old) = omega (arith, k.row, k.part) in
+          let more : HasRead covers (record mid { row = suc mid.row }) = record {
+            row = omega (arith, lt);
+            version = subst (λ (x : ℕ). mid.version ≡ joined_version (versions (take (suc x) covers))) (sym k.part) version-read;
+            margin = subst (λ (x : ℕ). IsKept margin_line 1 covers x mid.margin.items) (sym n)
+                (keeps margin_line 1 old.part old.row (lines_read old) covers c l old.margin.items mid.margin.items r.row (omega arith) refl e r.margin k.margin i.margin);
+            delta = subst (λ (x : ℕ). IsKept delta_line 2 covers x mid.delta.items) (sym n)
+                (keeps delta_line 2 old.part old.row (lines_read old) covers c l old.delta.items mid.delta.items r.row (omega arith) refl e r.delta k.delta i.delta);
+            bound = subst (λ (x : ℕ). IsKept bound_line 3 covers x mid.bound.items) (sym n)
+                (keeps bound_line 3 old.part old.row (lines_read old) covers c l old.bound.items mid.bound.items r.row (omega arith) refl e r.bound k.bound i.bound);
+            point = (k.early early).0 ∙ r.point;
+            counts = (k.early early).1 ∙ r.counts ∙ ap (λ (x : ℕ). map (λ (y : Cover). length y.lemmas) (take x covers)) (sym k.part);
+          } in
+          subst (HasRead covers) (sym (b.0 lt)) more
+      | inr late ↦
+          let le : 4 ≤ mid.row = omega (arith, k.row, late) in
+          let n : lines_read (record mid { part = suc mid.part; row = 0 }) ≡ suc (lines_read old) = omega (arith, k.part, r.row, late) in
+          let last = k.last late (length c.lemmas) t.spelled.1.1.1.1.0.0 (i.cover late) in
+          let more : HasRead covers (record mid { part = suc mid.part; row = 0 }) = record {
+            row = omega arith;
+            version = subst (λ (x : ℕ). mid.version ≡ joined_version (versions (take (suc x) covers))) (sym k.part) version-read;
+            margin = subst (λ (x : ℕ). IsKept margin_line 1 covers x mid.margin.items) (sym n)
+                (keeps margin_line 1 old.part old.row (lines_read old) covers c l old.margin.items mid.margin.items r.row (omega arith) refl e r.margin k.margin i.margin);
+            delta = subst (λ (x : ℕ). IsKept delta_line 2 covers x mid.delta.items) (sym n)
+                (keeps delta_line 2 old.part old.row (lines_read old) covers c l old.delta.items mid.delta.items r.row (omega arith) refl e r.delta k.delta i.delta);
+            bound = subst (λ (x : ℕ). IsKept bound_line 3 covers x mid.bound.items) (sym n)
+                (keeps bound_line 3 old.part old.row (lines_read old) covers c l old.bound.items mid.bound.items r.row (omega arith) refl e r.bound k.bound i.bound);
+            point = last.0 ∙ r.point;
+            counts = last.1 ∙ ap (λ (x : List ℕ). x ++ (length c.lemmas ∷ [])) r.counts ∙ sym (take_one_more covers old.part c e)
+                ∙ ap (λ (x : ℕ). map (λ (y : Cover). length y.lemmas) (take (suc x) covers)) (sym k.part);
+          } in
+          subst (HasRead covers) (sym (b.1 le)) more
+    ]
 
 place_more : (old mid new : Heads) → old.row < 5 → mid.part ≡ old.part → mid.row ≡ old.row → IsBehind mid new →
     (rest : List Cover) → ahead_of new.part new.row rest ≡ ahead_of old.part (suc old.row) rest
@@ -309,17 +342,13 @@ line_more t u l ls v e f =
     f ∙ ap (λ (x : List ℕ). x ++ text_of_lines ls) e ∙ append_assoc t (l ++ (10 ∷ [])) (text_of_lines ls)
     ∙ ap (λ (x : List ℕ). t ++ x) (append_assoc l (10 ∷ []) (text_of_lines ls))
 
-version_text : codes "dpoly 2" ≡ line_text (version 2)
-version_text = ap (λ (x : List ℕ). codes "dpoly " ++ x) (sym (decimal_digit 2 (omega arith)))
-
 -- the first four lines were appended, each by a call
 pub appends : (h : Heads) (r : Result (Unit {0}) AllocError) (t t1 t2 t3 t4 m d b : List ℕ) →
-    t1 ≡ t ++ (codes "dpoly 2" ++ (10 ∷ [])) → m ≡ h.margin.items → t2 ≡ t1 ++ (m ++ (10 ∷ [])) → d ≡ h.delta.items → t3 ≡ t2 ++ (d ++ (10 ∷ [])) →
+    t1 ≡ t ++ (line_text (version h.version) ++ (10 ∷ [])) → m ≡ h.margin.items → t2 ≡ t1 ++ (m ++ (10 ∷ [])) → d ≡ h.delta.items → t3 ≡ t2 ++ (d ++ (10 ∷ [])) →
     b ≡ h.bound.items → OnOk r (t4 ≡ t3 ++ (b ++ (10 ∷ []))) → OnOk r (t4 ≡ t ++ head_text h)
 appends h (Err e) t t1 t2 t3 t4 m d b e1 em e2 ed e3 eb e4 = tt
 appends h (Ok x) t t1 t2 t3 t4 m d b e1 em e2 ed e3 eb e4 =
-    line_more t t1 (codes "dpoly 2") (m ∷ d ∷ b ∷ []) t4 e1 (line_more t1 t2 m (d ∷ b ∷ []) t4 e2 (line_more t2 t3 d (b ∷ []) t4 e3 e4))
-    ∙ ap (λ (v : List ℕ). t ++ text_of_lines (v ∷ m ∷ d ∷ b ∷ [])) version_text
-    ∙ ap (λ (v : List ℕ). t ++ text_of_lines (line_text (version 2) ∷ v ∷ d ∷ b ∷ [])) em
-    ∙ ap (λ (v : List ℕ). t ++ text_of_lines (line_text (version 2) ∷ h.margin.items ∷ v ∷ b ∷ [])) ed
-    ∙ ap (λ (v : List ℕ). t ++ text_of_lines (line_text (version 2) ∷ h.margin.items ∷ h.delta.items ∷ v ∷ [])) eb
+    line_more t t1 (line_text (version h.version)) (m ∷ d ∷ b ∷ []) t4 e1 (line_more t1 t2 m (d ∷ b ∷ []) t4 e2 (line_more t2 t3 d (b ∷ []) t4 e3 e4))
+    ∙ ap (λ (v : List ℕ). t ++ text_of_lines (line_text (version h.version) ∷ v ∷ d ∷ b ∷ [])) em
+    ∙ ap (λ (v : List ℕ). t ++ text_of_lines (line_text (version h.version) ∷ h.margin.items ∷ v ∷ b ∷ [])) ed
+    ∙ ap (λ (v : List ℕ). t ++ text_of_lines (line_text (version h.version) ∷ h.margin.items ∷ h.delta.items ∷ v ∷ [])) eb

@@ -12,7 +12,7 @@ use Rattle.cert_read.specs.CertLine.{CertLine, cover, tree_word, end_word, rule_
 use Rattle.cert_read.specs.LineText.{IsSpelled, line_text, text_of_lines}
 use Rattle.cert_model.specs.Written.{rule_lines}
 use Rattle.cert_joined.specs.Joined.{Joins}
-use Rattle.cert_joined.specs.Covers.{Cover, Lemma, IsTextOf, AreTextsOf, IsShaped, lemmas_lines, line_by, numbered, number_at, tree_by, trees_by}
+use Rattle.cert_joined.specs.Covers.{Cover, Lemma, IsTextOf, AreTextsOf, IsShaped, joined_version, lemmas_lines, line_by, numbered, number_at, tree_by, trees_by, versions}
 use Rattle.cert_join.specs.Ahead.{AreBefore}
 use Rattle.cert_join.specs.Spot.{Spot, IsBefore}
 use Rattle.cert_join.specs.Gathered.{AreDistinct, Meeting, is_in, lists_of, numbers_at, parts_of, spot_at}
@@ -40,11 +40,11 @@ pub begun_with : (done old new more : List ℕ) → done ++ old ≡ [] → new �
 begun_with done old new more e f = ap (λ (t : List ℕ). done ++ t) f ∙ sym (append_assoc done old more) ∙ ap (λ (t : List ℕ). t ++ more) e
 
 -- the text before the main tree, by its parts
-pub front_text : (first : Cover) (xs : List Lemma) (head : List ℕ) (n : ℕ) → head ≡ text_of (head_lines first) → n ≡ length xs →
-    text_of (lines_before_tree first xs) ≡ (head ++ text_of (cover n ∷ [])) ++ text_of (lemmas_lines 0 xs)
-front_text first xs head n e f =
-    text_append (head_lines first ++ (cover (length xs) ∷ [])) (lemmas_lines 0 xs)
-    ∙ ap (λ (t : List ℕ). t ++ text_of (lemmas_lines 0 xs)) (text_append (head_lines first) (cover (length xs) ∷ []) ∙ ap₂ (λ (t : List ℕ) (m : ℕ). t ++ text_of (cover m ∷ [])) (sym e) (sym f))
+pub front_text : (covers : List Cover) (first : Cover) (xs : List Lemma) (head : List ℕ) (n : ℕ) → head ≡ text_of (head_lines covers first) → n ≡ length xs →
+    text_of (lines_before_tree covers first xs) ≡ (head ++ text_of (cover n ∷ [])) ++ text_of (lemmas_lines 0 xs)
+front_text covers first xs head n e f =
+    text_append (head_lines covers first ++ (cover (length xs) ∷ [])) (lemmas_lines 0 xs)
+    ∙ ap (λ (t : List ℕ). t ++ text_of (lemmas_lines 0 xs)) (text_append (head_lines covers first) (cover (length xs) ∷ []) ∙ ap₂ (λ (t : List ℕ) (m : ℕ). t ++ text_of (cover m ∷ [])) (sym e) (sym f))
 
 rules-text : (ls : List Line) → texts_of (rule_lines ls) ≡ rule_texts ls
 rules-text [] = refl
@@ -66,14 +66,14 @@ whole_text before u =
 
 -- behind the last line it is that of a cover that joins them
 pub joined_text : (first : Cover) (covers : List Cover) (numbers : List (List ℕ)) (u : Tree) (done old new : List ℕ) → AreSettled first covers numbers → Joins (trees_by numbers covers) u →
-    done ++ old ≡ (text_of (lines_before_tree first (written_from 0 numbers covers)) ++ text_of (tree_word ∷ [])) ++ tree_text u →
+    done ++ old ≡ (text_of (lines_before_tree covers first (written_from 0 numbers covers)) ++ text_of (tree_word ∷ [])) ++ tree_text u →
     new ≡ old ++ text_of (end_word ∷ []) → IsJoinText covers (done ++ new)
 joined_text first covers numbers u done old new s j e f =
     let xs = written_from 0 numbers covers in (
-      record { version = 2; margin_bits = first.margin_bits; delta_bits = first.delta_bits; bound = first.bound; lemmas = xs; tree = u },
-      record { newest = refl; margin = s.alike.margin; delta = s.alike.delta; bound = s.alike.bound; numbers = numbers; lemmas = s.lemmas; tree = j },
+      record { version = joined_version (versions covers); margin_bits = first.margin_bits; delta_bits = first.delta_bits; bound = first.bound; lemmas = xs; tree = u },
+      record { version = refl; margin = s.alike.margin; delta = s.alike.delta; bound = s.alike.bound; numbers = numbers; lemmas = s.lemmas; tree = j },
       ap (λ (t : List ℕ). done ++ t) f ∙ sym (append_assoc done old (text_of (end_word ∷ []))) ∙ ap (λ (t : List ℕ). t ++ text_of (end_word ∷ [])) e
-          ∙ sym (whole_text (lines_before_tree first xs) u),
+          ∙ sym (whole_text (lines_before_tree covers first xs) u),
     )
 
 -- ---- the numbers of lemmas
@@ -274,7 +274,7 @@ course_of certs first covers done numbers s = record {
   numbers = numbers;
   trees = trees_by numbers covers;
   done = done;
-  front = text_of (lines_before_tree first (written_from 0 numbers covers)) ++ text_of (tree_word ∷ []);
+  front = text_of (lines_before_tree covers first (written_from 0 numbers covers)) ++ text_of (tree_word ∷ []);
   spelled = λ i l h. spelled_by (numbered (numbers_at numbers i)) (s.few i) l h;
 }
 
@@ -315,6 +315,6 @@ lemmas_begun certs first covers done old new h n numbers spots texts none more a
       left = all_left [] covers;
       same = start_covers covers;
       due = lemmas_start covers certs N spots texts d.ahead many;
-      whole = front_text first xs (head_text h) n.count a.text d.count
+      whole = front_text covers first xs (head_text h) n.count a.text d.count
           ∙ ap₂ (λ (s t : List ℕ). s ++ t) (sym (begun_with done old new (head_text h ++ text_of (cover n.count ∷ [])) none more)) (sym (lemmas_written covers N many));
     })

@@ -1,9 +1,9 @@
 -- The first five lines of certificates, which are read one after the other.
-use Rattle.std.specs.Prelude.{◌≡◌, ◌+◌, ◌*◌, ◌<◌, ◌≤◌, ◌^◌, ◌≢◌, ℕ, zero, suc, List, [], ◌∷◌, ◌++◌, Some, None, Result, Ok, Err, drop, take, map, length, slice_get}
+use Rattle.std.specs.Prelude.{◌≡◌, ◌+◌, ◌*◌, ◌<◌, ◌≤◌, ◌^◌, ◌≢◌, ℕ, zero, suc, List, [], ◌∷◌, ◌++◌, Some, None, Result, Ok, Err, cond, drop, take, map, length, nat_eq, slice_get}
 use Rattle.std.specs.List.{AllByRecursion}
 use Rattle.cert_read.specs.CertLine.{CertLine, version, margin, delta, bound, cover}
 use Rattle.cert_read.specs.LineText.{line_text, text_of_lines}
-use Rattle.cert_joined.specs.Covers.{Cover, cover_lines}
+use Rattle.cert_joined.specs.Covers.{Cover, cover_lines, joined_version, versions}
 use Rattle.cert_join.specs.declared.heads.Heads.{Heads}
 use Rattle.cert_join.specs.declared.joiner.Step.{Step}
 use Rattle.cert_join.specs.declared.joiner.Step.TheVariants.{Over}
@@ -28,6 +28,11 @@ ahead_of (suc part) row (c ∷ covers) = behind_header c ∷ ahead_of part row c
 abbrev pub lines_read : Heads → ℕ
 lines_read h = 5 * h.part + h.row
 
+-- how many certificates had their first line read, where so many were read whole, and so many lines of the next one
+abbrev pub firsts : ℕ → ℕ → ℕ
+firsts part zero = part
+firsts part (suc row) = suc part
+
 -- line k was kept of the first certificate, and is the same in each of which it was read
 pub record IsKept (f : Cover → CertLine) (k : ℕ) (covers : List Cover) (count : ℕ) (text : List ℕ) : Type 0 where
   pub new : count ≤ k → text ≡ []
@@ -44,6 +49,7 @@ bound_line c = bound c.bound
 
 pub record HasRead (covers : List Cover) (h : Heads) : Type 0 where
   pub row : h.row < 5
+  pub version : h.version ≡ joined_version (versions (take (firsts h.part h.row) covers))
   pub margin : IsKept margin_line 1 covers (lines_read h) h.margin.items
   pub delta : IsKept delta_line 2 covers (lines_read h) h.delta.items
   pub bound : IsKept bound_line 3 covers (lines_read h) h.bound.items
@@ -67,6 +73,8 @@ pub record TakesText (k row part : ℕ) (line old new : List ℕ) : Type 0 where
 pub record TakesLine (line : List ℕ) (old new : Heads) : Type 0 where
   pub part : new.part ≡ old.part
   pub row : new.row ≡ old.row
+  pub version : old.row ≡ 0 → (n : ℕ) → n < 2 ^ 32 → line ≡ line_text (version n) → new.version ≡ cond (nat_eq n 5) 5 old.version
+  pub same_version : 0 < old.row → new.version ≡ old.version
   pub margin : TakesText 1 old.row old.part line old.margin.items new.margin.items
   pub delta : TakesText 2 old.row old.part line old.delta.items new.delta.items
   pub bound : TakesText 3 old.row old.part line old.bound.items new.bound.items
@@ -98,20 +106,20 @@ pub record AreAlike (first : Cover) (covers : List Cover) : Type 0 where
   pub delta : AllByRecursion (λ (c : Cover). c.delta_bits ≡ first.delta_bits) covers
   pub bound : AllByRecursion (λ (c : Cover). c.bound ≡ first.bound) covers
 
--- the first four lines of the joined certificate
-abbrev pub head_lines : Cover → List CertLine
-head_lines c = version 2 ∷ margin_line c ∷ delta_line c ∷ bound_line c ∷ []
+-- the first four lines of the certificate that joins those of covers, of which this is the first
+abbrev pub head_lines : List Cover → Cover → List CertLine
+head_lines covers c = version (joined_version (versions covers)) ∷ margin_line c ∷ delta_line c ∷ bound_line c ∷ []
 
 -- the text of the first four lines
 abbrev pub head_text : Heads → List ℕ
-head_text h = text_of_lines (line_text (version 2) ∷ h.margin.items ∷ h.delta.items ∷ h.bound.items ∷ [])
+head_text h = text_of_lines (line_text (version h.version) ∷ h.margin.items ∷ h.delta.items ∷ h.bound.items ∷ [])
 
 pub record AreHeadsRead (certs : List (List ℕ)) (covers : List Cover) (h : Heads) (spots : List Spot) : Type 0 where
   pub before : AreBefore certs (map behind_header covers) spots
   pub point : h.point ≡ None
   pub counts : h.counts.items ≡ map (λ c. length c.lemmas) covers
   pub alike : (c : Cover) (rest : List Cover) → covers ≡ c ∷ rest → AreAlike c covers
-  pub text : (c : Cover) (rest : List Cover) → covers ≡ c ∷ rest → head_text h ≡ text_of (head_lines c)
+  pub text : (c : Cover) (rest : List Cover) → covers ≡ c ∷ rest → head_text h ≡ text_of (head_lines covers c)
 
 -- how a step ends
 abbrev pub ReadsHeads : List (List ℕ) → List Cover → Result Step Unjoined → Heads → List Spot → Type 0

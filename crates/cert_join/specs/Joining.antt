@@ -27,9 +27,9 @@ use Rattle.cert_join.specs.Written.{behind_lemmas, text_of, written_from}
 abbrev pub IsJoinText : List Cover → List ℕ → Type 0
 IsJoinText covers text = (joined : Cover) × IsJoinOf covers joined × (text ≡ text_of (cover_lines joined))
 
--- the lines before the main tree, of a cover like this one, with these lemmas
-abbrev pub lines_before_tree : Cover → List Lemma → List CertLine
-lines_before_tree c xs = (head_lines c ++ (cover (length xs) ∷ [])) ++ lemmas_lines 0 xs
+-- the lines before the main tree of the cover that joins these, of which this is the first, with these lemmas
+abbrev pub lines_before_tree : List Cover → Cover → List Lemma → List CertLine
+lines_before_tree covers c xs = (head_lines covers c ++ (cover (length xs) ∷ [])) ++ lemmas_lines 0 xs
 
 -- so many numbers, from 0 on
 abbrev pub first_numbers : ℕ → List ℕ
@@ -50,7 +50,7 @@ pub record AreSettled (first : Cover) (covers : List Cover) (numbers : List (Lis
 -- The headers were read, and nothing written.
 pub record AreAtNumbers (certs : List (List ℕ)) (first : Cover) (covers : List Cover) (h : HeadsRead) : Type 0 where
   pub alike : AreAlike first covers
-  pub text : head_text h ≡ text_of (head_lines first)
+  pub text : head_text h ≡ text_of (head_lines covers first)
 
 -- The lemmas are written, so far.
 pub record AreAtLemmas (certs : List (List ℕ)) (first : Cover) (covers : List Cover) (written : List ℕ) (numbers : List (List ℕ)) (s : LemmasRead) (spots : List Spot) : Type 0 where
@@ -58,13 +58,13 @@ pub record AreAtLemmas (certs : List (List ℕ)) (first : Cover) (covers : List 
   pub left : LemmasLeft
   pub same : covers_of left ≡ covers
   pub due : AreLemmasDue certs numbers left s spots
-  pub whole : text_of (lines_before_tree first (written_from 0 numbers covers)) ≡ written ++ text_of (lemmas_due numbers s left)
+  pub whole : text_of (lines_before_tree covers first (written_from 0 numbers covers)) ≡ written ++ text_of (lemmas_due numbers s left)
 
 -- All are, and the main trees are ahead.
 pub record AreLemmasWritten (certs : List (List ℕ)) (first : Cover) (covers : List Cover) (written : List ℕ) (numbers : List (List ℕ)) (spots : List Spot) : Type 0 where
   pub settled : AreSettled first covers numbers
   pub before : AreBefore certs (map behind_lemmas covers) spots
-  pub whole : text_of (lines_before_tree first (written_from 0 numbers covers)) ≡ written
+  pub whole : text_of (lines_before_tree covers first (written_from 0 numbers covers)) ≡ written
 
 -- what is joined where the trees are
 pub record IsCourseOf (certs : List (List ℕ)) (first : Cover) (covers : List Cover) (done : List ℕ) (numbers : List (List ℕ)) (k : Course) : Type 0 where
@@ -72,7 +72,7 @@ pub record IsCourseOf (certs : List (List ℕ)) (first : Cover) (covers : List C
   pub numbers_are : k.numbers ≡ numbers
   pub trees_are : k.trees ≡ trees_by numbers covers
   pub done_is : k.done ≡ done
-  pub front_is : k.front ≡ text_of (lines_before_tree first (written_from 0 numbers covers)) ++ text_of (tree_word ∷ [])
+  pub front_is : k.front ≡ text_of (lines_before_tree covers first (written_from 0 numbers covers)) ++ text_of (tree_word ∷ [])
 
 -- The main trees are written, so far.
 pub record AreAtTrees (certs : List (List ℕ)) (first : Cover) (covers : List Cover) (done text : List ℕ) (numbers : List (List ℕ)) (t : TreesRead) (spots : List Spot) : Type 0 where
@@ -98,7 +98,7 @@ IsOver certs first covers done text numbers (Numbering h n) spots = (done ++ tex
 IsOver certs first covers done text numbers (Lemmas s) spots = AreLemmasWritten certs first covers (done ++ text) numbers spots
 IsOver certs first covers done text numbers (Trees t) spots =
     AreSettled first covers numbers × ((u : Tree) × Joins (trees_by numbers covers) u
-    × (done ++ text ≡ (text_of (lines_before_tree first (written_from 0 numbers covers)) ++ text_of (tree_word ∷ [])) ++ tree_text u))
+    × (done ++ text ≡ (text_of (lines_before_tree covers first (written_from 0 numbers covers)) ++ text_of (tree_word ∷ [])) ++ tree_text u))
 IsOver certs first covers done text numbers (Ends part is_read) spots = IsJoinText covers (done ++ text)
 
 abbrev pub IsAfterStep : List (List ℕ) → Cover → List Cover → List ℕ → Step → List ℕ → List (List ℕ) → Stage → List Spot → Type 0

@@ -1,6 +1,6 @@
 // The first five lines of each certificate.
-ghost use Rattle.std.specs.Prelude.{◌≡◌, ◌≢◌, ◌++◌, ◌∷◌, ◌<◌, ◌^◌, [], ℕ, List, true, false, Some, Ok, OnOk, slice_get, drop, map};
-ghost use Rattle.cert_read.specs.CertLine.{cover};
+ghost use Rattle.std.specs.Prelude.{◌≡◌, ◌≢◌, ◌++◌, ◌∷◌, ◌<◌, ◌^◌, [], ℕ, List, true, false, cond, nat_eq, Some, Ok, OnOk, slice_get, drop, map};
+ghost use Rattle.cert_read.specs.CertLine.{cover, version};
 ghost use Rattle.cert_read.specs.LineText.{line_text};
 ghost use Rattle.cert_joined.specs.Covers.{Cover, AreTextsOf, IsTextOf};
 ghost use Rattle.cert_join.specs.Ahead.{AreBefore};
@@ -9,9 +9,12 @@ ghost use Rattle.cert_join.specs.Heads.{all_lines, head_text, HasRead, IsBehind,
 
 use crate::cursor::Cursor;
 use crate::joiner::{Step, apart};
-use crate::line::number_of;
+use crate::line::{append_number, number_of};
 use crate::stop::Unjoined;
 use std::alloc::{AllocError, Global};
+
+// The newest version.
+const NEWEST: u32 = 5;
 
 /// What the first five lines of the certificates say: all but the first and the last are alike.
 #[derive(Drop)]
@@ -26,8 +29,9 @@ pub struct Heads {
     pub point: Option<usize>,
     /// Of each certificate, how many lemmas it says that it has.
     pub counts: Vec<u32>,
-    /// Whether one is of version 1, which does not have all rules.
-    pub has_old: bool,
+    // The version of what joins those of which it was read, and the earliest that was read.
+    version: u32,
+    earliest: u32,
 }
 
 // Keeps the line of the first certificate, and says of another one's whether it is the same.
@@ -70,6 +74,35 @@ fn count_in(line: &[u8]) -> Option<u32>
     }
 }
 
+// The version in the first line.
+fn version_in(line: &[u8]) -> Option<u32>
+    ensures { (n : ℕ) → n < 2 ^ 32 → line.now ≡ line_text (version n) → result ≡ Some n }
+{
+    match line.strip_prefix(b"dpoly ".as_slice()) {
+        Some(digits) => number_of(digits),
+        None => None,
+    }
+}
+
+// Appends the first line of a certificate of this version.
+fn append_version(text: &mut Vec<u8>, number: u32) -> Result<(), AllocError>
+    ensures { OnOk result (text.new.items
+        ≡ text.old.items ++ (line_text (version number) ++ (10 ∷ []))) }
+{
+    match text.extend_from_slice(b"dpoly ") {
+        Ok(()) => {}
+        Err(error) => return Err(error),
+    }
+    match append_number(text, number) {
+        Ok(()) => {}
+        Err(error) => return Err(error),
+    }
+    match text.push(b'\n') {
+        Ok(()) => Ok(()),
+        Err(_) => Err(AllocError),
+    }
+}
+
 impl Heads {
     pub fn new(alloc: Global) -> Self
         ensures { (certs : List (List ℕ)) (covers : List Cover) (spots : List Spot) →
@@ -83,17 +116,40 @@ impl Heads {
             bound: Vec::new(alloc),
             point: None,
             counts: Vec::new(alloc),
-            has_old: false,
+            version: 2,
+            earliest: NEWEST,
         }
+    }
+
+    /// Whether one is of an earlier version than what joins them, and so may not have all rules of that.
+    pub fn has_older(&self) -> bool {
+        self.earliest < self.version
+    }
+
+    // Takes the version of a certificate, and says whether it is one for one check.
+    fn take_number(&mut self, number: u32) -> bool
+        ensures same { self.new
+            ≡ record self.old { version = self.new.version; earliest = self.new.earliest } }
+        ensures version { self.new.version ≡ cond (nat_eq number 5) 5 self.old.version }
+    {
+        if number == NEWEST {
+            self.version = NEWEST;
+        }
+        self.earliest = self.earliest.min(number);
+        matches!(number, 1 | 2 | NEWEST)
     }
 
     // Takes the first line of a certificate, and says whether it is that of a version for one check.
     fn take_version(&mut self, line: &[u8]) -> bool
-        ensures { self.new ≡ record self.old { has_old = self.new.has_old } }
+        ensures same { self.new
+            ≡ record self.old { version = self.new.version; earliest = self.new.earliest } }
+        ensures version { (n : ℕ) → n < 2 ^ 32 → line.now ≡ line_text (version n) →
+            self.new.version ≡ cond (nat_eq n 5) 5 self.old.version }
     {
-        let is_old = line == b"dpoly 1".as_slice();
-        self.has_old = self.has_old || is_old;
-        is_old || line == b"dpoly 2".as_slice()
+        match version_in(line) {
+            Some(number) => self.take_number(number),
+            None => false,
+        }
     }
 
     // Takes the next line of a certificate, and says whether it may stand there.
@@ -203,7 +259,7 @@ impl Heads {
     pub fn append(&self, text: &mut Vec<u8>) -> Result<(), AllocError>
         ensures { OnOk result (text.new.items ≡ text.old.items ++ head_text self.now) }
     {
-        match append_line(text, b"dpoly 2") {
+        match append_version(text, self.version) {
             Ok(()) => {}
             Err(error) => return Err(error),
         }

@@ -300,8 +300,8 @@ impl Joiner {
             Ok(()) => {}
             Err(error) => return Err(error),
         }
-        // The rules of version 2 would not be refused.
-        self.dropped = numbering.dropped || heads.has_old;
+        // What only the later version has would not be refused.
+        self.dropped = numbering.dropped || heads.has_older();
         drop(mem::replace(&mut self.numbers, numbering.numbers));
         Ok(Stage::Lemmas(Lemmas::new()))
     }

@@ -1,12 +1,13 @@
 -- What joins lawful trees is lawful.
-use Rattle.std.proofs.Common.{◌≡◌, List, [], ◌∷◌, ◌++◌, Option, Some, sym, ap, ◌∙◌, subst, map}
+use Rattle.std.proofs.Common.{◌≡◌, ◌≤◌, ℕ, List, [], ◌∷◌, ◌++◌, Option, Some, sym, ap, ◌∙◌, subst, map}
 use Rattle.std.specs.List.{AllByRecursion}
 use Rattle.poly_graph.specs.Problem.{Problem}
-use Rattle.cover_model.specs.State.{State, Loosenings}
-use Rattle.cover_model.specs.Rules.{Line, Left, one as one_state, two, rule}
-use Rattle.cover_model.specs.Derivation.{Tree, leaf, then, fork, Lawful, at_step, at_fork}
+use Rattle.cover_model.specs.State.{State, Loosenings, in_version}
+use Rattle.cover_model.specs.Rules.{Line, Left, closed, one as one_state, two, stays, rule}
+use Rattle.cover_model.specs.Derivation.{Tree, leaf, then, fork, Lawful, at_closed, at_left, at_step, at_fork}
+use Rattle.cover_model.proofs.Later.{rule_later}
 use Rattle.cert_joined.specs.Joined.{Joins, none, one, ends, steps, forks, differ, going_on}
-use Rattle.cert_joined.specs.Laws.{IsLawfulAt, JoinsLawful}
+use Rattle.cert_joined.specs.Laws.{IsLawfulAt, IsLawfulBefore, JoinsLawful}
 use Rattle.cert_joined.proofs.Members.{all_going, of_first_closed, joins_some}
 
 -- ---- what a rule leaves
@@ -102,5 +103,21 @@ module _ (p : Problem) (s : Loosenings) (lemmas : List State) where
       let all = going S ts (t ∷ more) e hs in
       of_first_closed (λ (x : Tree). IsLawfulAt p s lemmas S x) t (t ∷ more) all.0 all
 
+-- ---- in versions
+
+module _ (p : Problem) (s : Loosenings) (v : ℕ) (later : s.version ≤ v) (lemmas : List State) where
+  lawful-later : {S : State} {t : Tree} {rest : List State} → Lawful p s lemmas S t rest → Lawful p (in_version v s) lemmas S t rest
+  lawful-later (at_closed {S = S} {l = l} h) = at_closed (rule_later p s v later lemmas S l closed h)
+  lawful-later (at_left {S = S} {l = l} h) = at_left (rule_later p s v later lemmas S l stays h)
+  lawful-later (at_step {S = S} {S' = S'} {l = l} h r) = at_step (rule_later p s v later lemmas S l (one_state S') h) (lawful-later r)
+  lawful-later (at_fork {S = S} {S' = T} {S'' = U} {l = l} h r r') = at_fork (rule_later p s v later lemmas S l (two T U) h) (lawful-later r) (lawful-later r')
+
+-- so each of several is lawful in the version of all
+all-lawful : (p : Problem) (s : Loosenings) (lemmas : List State) (S : State) (ts : List Tree) →
+    AllByRecursion (λ (t : Tree). IsLawfulBefore p s lemmas S t) ts → AllByRecursion (λ (t : Tree). IsLawfulAt p s lemmas S t) ts
+all-lawful p s lemmas S [] hs = tt
+all-lawful p s lemmas S (t ∷ ts) hs =
+    ((hs.0.lawful.0, lawful-later p (in_version hs.0.version s) s.version hs.0.earlier lemmas hs.0.lawful.1), all-lawful p s lemmas S ts hs.1)
+
 pub joins_lawful : JoinsLawful
-joins_lawful p s lemmas S ts u j hs = joined p s lemmas S ts u j hs
+joins_lawful p s lemmas S ts u j hs = joined p s lemmas S ts u j (all-lawful p s lemmas S ts hs)

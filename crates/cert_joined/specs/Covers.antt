@@ -1,5 +1,5 @@
 -- What the certificates of covers say, and what joins them: one header, the lemmas of all with new numbers, and a tree that joins theirs.
-use Rattle.std.specs.Prelude.{◌≡◌, ◌≤◌, ℕ, suc, List, [], ◌∷◌, ◌++◌, Option, Some, length, map, get_or, slice_get}
+use Rattle.std.specs.Prelude.{◌≡◌, ◌≤◌, ℕ, suc, List, [], ◌∷◌, ◌++◌, Option, Some, cond, length, map, nat_eq, get_or, slice_get}
 use Rattle.std.specs.List.{AllByRecursion}
 use Rattle.cover_model.specs.Rules.{Line, narrow_by, end_by, mark_by, branch_by, by_lemma, ban_atom, by, ban}
 use Rattle.cover_model.specs.Derivation.{Tree, leaf, then, fork, tree_lines}
@@ -125,9 +125,17 @@ abbrev pub trees_by : List (List ℕ) → List Cover → List Tree
 trees_by (ns ∷ numbers) (c ∷ covers) = tree_by (numbered ns) c.tree ∷ trees_by numbers covers
 trees_by _ _ = []
 
+-- the version of what joins certificates of these versions: 5 where one of them has it, else 2
+abbrev pub joined_version : List ℕ → ℕ
+joined_version [] = 2
+joined_version (v ∷ vs) = cond (nat_eq v 5) 5 (joined_version vs)
+
+abbrev pub versions : List Cover → List ℕ
+versions covers = map (λ (c : Cover). c.version) covers
+
 -- The covers have one margin, delta and bound, which the joined one has too; it has their lemmas, and its tree joins theirs.
 pub record IsJoinOf (covers : List Cover) (joined : Cover) : Type 0 where
-  pub newest : joined.version ≡ 2
+  pub version : joined.version ≡ joined_version (versions covers)
   pub margin : AllByRecursion (λ (c : Cover). c.margin_bits ≡ joined.margin_bits) covers
   pub delta : AllByRecursion (λ (c : Cover). c.delta_bits ≡ joined.delta_bits) covers
   pub bound : AllByRecursion (λ (c : Cover). c.bound ≡ joined.bound) covers

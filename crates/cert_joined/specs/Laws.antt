@@ -1,8 +1,8 @@
 -- The laws of joined trees.
-use Rattle.std.specs.Prelude.{◌≡◌, ℕ, List, Option, None, IsTrue}
+use Rattle.std.specs.Prelude.{◌≡◌, ◌≤◌, ℕ, List, Option, None, IsTrue}
 use Rattle.std.specs.List.{AllByRecursion}
 use Rattle.poly_graph.specs.Problem.{Problem, first_crossed}
-use Rattle.cover_model.specs.State.{State, Loosenings}
+use Rattle.cover_model.specs.State.{State, Loosenings, in_version}
 use Rattle.cover_model.specs.Derivation.{Tree, tree_lines, Lawful}
 use Rattle.cert_model.specs.Due.{Standing, left_open}
 use Rattle.cert_model.specs.Accepted.{IsAccepted}
@@ -13,10 +13,16 @@ use Rattle.cert_joined.specs.Joined.{Joins, IsAgreed, Keeps, closes}
 abbrev pub IsLawfulAt : Problem → Loosenings → List State → State → Tree → Type 0
 IsLawfulAt p s lemmas S t = (left : List State) × Lawful p s lemmas S t left
 
--- What joins lawful trees is lawful.
+-- lawful there in that version or an earlier one
+pub record IsLawfulBefore (p : Problem) (s : Loosenings) (lemmas : List State) (S : State) (t : Tree) : Type 0 where
+  pub version : ℕ
+  pub earlier : version ≤ s.version
+  pub lawful : IsLawfulAt p (in_version version s) lemmas S t
+
+-- What joins trees that are lawful, each in its version, is lawful in a version that is no earlier one.
 abbrev pub JoinsLawful : Type 0
 JoinsLawful = (p : Problem) (s : Loosenings) (lemmas : List State) (S : State) (ts : List Tree) (u : Tree) →
-    Joins ts u → AllByRecursion (λ (t : Tree). IsLawfulAt p s lemmas S t) ts → IsLawfulAt p s lemmas S u
+    Joins ts u → AllByRecursion (λ (t : Tree). IsLawfulBefore p s lemmas S t) ts → IsLawfulAt p s lemmas S u
 
 -- Where one leaves nothing, neither does what joins them.
 abbrev pub ClosedStaysClosed : Type 0

@@ -7,7 +7,7 @@
 
 ghost use Rattle.cert_joined.specs.Laws.{AcceptedIsText, ClosedStaysClosed, JoinsLawful, JoinsRefines, KeepsEach, LawfulIsShaped};
 
-/// What joins trees that are lawful at a state is lawful there.
+/// What joins trees that are lawful at a state, each in its version of the format, is lawful there in each later one.
 pub fn joins_lawful()
     ensures { JoinsLawful }
 {}

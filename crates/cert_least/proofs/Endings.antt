@@ -1,5 +1,5 @@
 -- What is answered where the input ends.
-use Rattle.std.proofs.Common.{◌≡◌, ℕ, suc, ◌+◌, List, Option, Some, None, Result, Ok, Err, refl, ap, sym, ◌∙◌, subst, arith}
+use Rattle.std.proofs.Common.{◌≡◌, ℕ, suc, ◌+◌, Bool, true, false, List, Option, Some, None, Result, Ok, Err, refl, ap, sym, ◌∙◌, subst, arith}
 use Rattle.std.specs.Prelude.{option_map}
 use Rattle.interval_model.specs.Space.{Space}
 use Rattle.dyadic.specs.Rounding.{Dyadic}
@@ -9,7 +9,7 @@ use Rattle.dyadic.specs.declared.dy.Ext as code-ext
 use Rattle.poly_graph.specs.ProblemViews.{problem_of}
 use Rattle.cover_model.specs.State.{State, Loosenings, atom_enclosure}
 use Rattle.cert_model.specs.Due as due
-use Rattle.cert_model.specs.Due.{Due, at_point, left_open, kind_due, nothing_due}
+use Rattle.cert_model.specs.Due.{Due, at_point, left_open, margin_due, delta_due, bound_due, kind_due, nothing_due}
 use Rattle.cert_model.specs.Accepted.{stopped, reached, at_end, missing}
 use Rattle.cert_model.specs.Session.{one_verdict}
 use Rattle.cert_model.specs.Least.{plain_due, least_due, GoalCourse, plain_verdict, upper_end}
@@ -28,7 +28,7 @@ use Rattle.cert_least.specs.declared.verdict.GoalVerdict.TheVariants as tells
 use Rattle.cert_least.specs.Aims.{Aim}
 use Rattle.cert_least.specs.Courses.{Finishes, IsVerdict, stops_at}
 use Rattle.cert_least.specs.Endings.{said}
-use Rattle.cert_least.specs.Phases.{cover_value, point_value, course_of, goal_due, IsPlaced, IsSoundPhase, due_in, header_at, cover_at, in_cover_at, in_point_at, IsKindDue, IsPointDue}
+use Rattle.cert_least.specs.Phases.{cover_value, point_value, course_of, goal_due, IsPlaced, IsSoundPhase, due_in, headed, cover_at, in_cover_at, in_point_at, IsHeaderDue, IsKindDue, IsPointDue}
 use Rattle.cert_least.specs.Steps.{renumbered}
 use Rattle.cert_least.proofs.Advancing.{reached_where}
 use Rattle.cert_least.proofs.Numbered.{renumbered_stops, course_here}
@@ -80,9 +80,19 @@ module _ (a : Aim) (lines : ℕ) where
   pub plain_err : (c : Option WorkCourse) (f : CertFault) → checking.Finishes c (Err f) → (d : Due) → due_in c ≡ Some d → Finishes a (Some (reached (plain_due d) lines)) (Err (renumbered f (lines + 1)))
   plain_err c f h d e = plain-err d (reached_where c d e).lines f (first-verdict c d (Err f) e h)
 
-  pub header_ends : (d : Due) → Finishes a (Some (reached (least_due (header_at d)) lines)) (Err (numbered.BadHeader (lines + 1)))
-  header_ends (kind_due s) = refused-so due.BadHeader (numbered.BadHeader (lines + 1)) refl
-  header_ends _ = refused-so due.BadHeader (numbered.BadHeader (lines + 1)) refl
+  pub header_ends : (s : Loosenings) (t : Bool) (d : Due) → IsHeaderDue s d → Finishes a (Some (reached (headed t d) lines)) (Err (numbered.BadHeader (lines + 1)))
+  header_ends s true (margin_due v) h = refused-so due.BadHeader (numbered.BadHeader (lines + 1)) refl
+  header_ends s true (delta_due v m) h = refused-so due.BadHeader (numbered.BadHeader (lines + 1)) refl
+  header_ends s true (bound_due s') h = refused-so due.BadHeader (numbered.BadHeader (lines + 1)) refl
+  header_ends s false (margin_due v) h = refused-so due.BadHeader (numbered.BadHeader (lines + 1)) refl
+  header_ends s false (delta_due v m) h = refused-so due.BadHeader (numbered.BadHeader (lines + 1)) refl
+  header_ends s false (bound_due s') h = refused-so due.BadHeader (numbered.BadHeader (lines + 1)) refl
+  header_ends s t _ h = absurd h
+
+  pub lower_ends : (s : Loosenings) (t : Bool) (d : Due) → IsKindDue s d → Finishes a (Some (reached (headed t d) lines)) (Err (numbered.BadHeader (lines + 1)))
+  lower_ends s true (kind_due s') h = refused-so due.BadHeader (numbered.BadHeader (lines + 1)) refl
+  lower_ends s false (kind_due s') h = refused-so due.BadHeader (numbered.BadHeader (lines + 1)) refl
+  lower_ends s t _ h = absurd h
 
   pub cover_missing : (e : Option Dyadic) (k : Option ℕ) (s : Loosenings) (d : Due) → IsKindDue s d → Finishes a (Some (reached (least_due (cover_at e k d)) lines)) (Err (numbered.BadHeader (lines + 1)))
   cover_missing e k s (kind_due s') h = refused-so due.BadHeader (numbered.BadHeader (lines + 1)) refl

@@ -91,6 +91,7 @@ module _ (p : Problem) (g : ℕ) (room : Bool) (b : Option ℕ) where
 
   pub goal_lean : (d : GoalDue) (l : CertLine) → next_map lean_goal (goal_next p g room b d l) ≡ next_map lean_goal (goal_next p g room b (lean_goal d) l)
   goal_lean (plain_due version_due) l = refl
+  goal_lean (plain_due (kind_due s)) l = refl
   goal_lean (plain_due d) l = plain-lean d l
   goal_lean (least_due (header_due d)) l =
       header_leads (next p b d l) ∙ ap (next_map (λ (d' : Due). least_due (header_at d'))) (next_lean p b d l) ∙ sym (header_leads (next p b (lean d) l))

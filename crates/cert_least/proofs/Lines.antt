@@ -10,7 +10,7 @@ use Rattle.poly_graph.specs.Problem.{Declared, real_between, any_bool, Axis, Pro
 use Rattle.poly_graph.specs.ProblemViews.{Parts, problem_of}
 use Rattle.cover_line.specs.Words.{word_of}
 use Rattle.cover_model.specs.State.{State, Loosenings}
-use Rattle.cover_model.specs.Rules.{Line, open_line}
+use Rattle.cover_model.specs.Rules.{has_version_5, Line, open_line}
 use Rattle.cert_read.specs.CertLine.{CertLine, version, margin, delta, bound, lower, goal, cover, point_word, end_word, real_value, bool_value, says_both, says_true, says_false, rule_line, over}
 use Rattle.cert_model.specs.Due.{BadHeader, WrongBound, NotShown, RuleFails, OverFails, BadNumber, at_point, left_open, Due, version_due, margin_due, delta_due, bound_due, kind_due, root_due, tree_due, coordinate_due, end_due, nothing_due, Next, on, faulty, given, names_well, is_version, same_bound, is_shown, coordinate_next, is_crossed_box}
 use Rattle.cert_model.specs.Due as due
@@ -27,11 +27,11 @@ use Rattle.cert_least.specs.declared.phase.Phase.TheVariants as phase
 use Rattle.cert_least.specs.declared.phase.Scope.{Scope}
 use Rattle.cert_least.specs.declared.phase.Told.{Told}
 use Rattle.cert_least.specs.Aims.{Aim, aim_next, lean_goal}
-use Rattle.cert_least.specs.Phases.{told_of, lower_of, cover_value, header_at, cover_at, in_cover_at, in_point_at, goal_due, IsBehindVersion, IsHeaderDue, IsKindDue, IsPointDue, HasHeader, IsDueIn, IsDueTo, problem_in, searched_by}
-use Rattle.cert_least.specs.Said.{header_phase, IsLeastIn, IsLowerIn, IsCoverIn, IsLimitIn, IsOther}
+use Rattle.cert_least.specs.Phases.{told_of, lower_of, cover_value, header_at, headed, tells_later, cover_at, in_cover_at, in_point_at, goal_due, IsPlainDue, IsHeaderDue, IsKindDue, IsPointDue, HasHeader, IsDueIn, IsDueTo, problem_in, searched_by}
+use Rattle.cert_least.specs.Said.{header_phase, IsLeastIn, IsOpenIn, IsLowerIn, IsCoverIn, IsLimitIn, IsOther}
 use Rattle.cert_least.specs.Steps.{IsFaultOrMemory, IsGone, IsPhaseOn, IsPhaseOutcome, IsToldAs, IsBegun, IsLimitBy, leaf_refusal}
 use Rattle.cert_least.proofs.Leans.{plain_leads, header_leads, cover_leads, point_leads}
-use Rattle.cert_least.proofs.Behind.{next_behind, behind_lean}
+use Rattle.cert_least.proofs.Behind.{Behind, next_behind, version_behind, kind_behind, behind_lean}
 use Rattle.cert_least.proofs.Headers.{header_stays, header_told, kind_has_header}
 
 on-same : {d e : Due} → on d ≡ on e → d ≡ e
@@ -83,27 +83,42 @@ module _ (a : Aim) where
       (gone a P new (next P b version_due (version 2)) (aim_next a (plain_due version_due) (version 4)) (phase.Header first) refl refl header-here r
       (subst (λ (d' : Due). IsGone P b (next P b d' (version 2)) (phase.Header first) new r) e' h)))
 
+  abbrev fifth : Told
+  fifth = record { version = 5; margin = 0; delta = 0 }
+
+  open-here : (d : Due) → on (margin_due 5) ≡ on d → IsHeaderDue (told_of fifth) d
+  open-here d e = subst (IsHeaderDue (told_of fifth)) (on-same e) (refl, refl)
+
+  pub first_open : (l : CertLine) → IsOpenIn true l → (d : Due) → d ≡ version_due → (new : Checked) (r : Result Phase CertFault) → IsGone P b (next P b d l) (phase.Header fifth) new r →
+      Goes phase.Version d l new r
+  first_open l e d e' new r h =
+      subst (λ (d' : Due). Goes phase.Version d' l new r) (sym e') (subst (λ (l' : CertLine). Goes phase.Version version_due l' new r) (sym e)
+      (gone a P new (next P b version_due (version 5)) (aim_next a (plain_due version_due) (version 5)) (phase.Header fifth) refl refl open-here r
+      (subst (λ (l' : CertLine). IsGone P b (next P b version_due l') (phase.Header fifth) new r) e (subst (λ (d' : Due). IsGone P b (next P b d' l) (phase.Header fifth) new r) e' h))))
+
   plain-start : (l : CertLine) → IsLeastIn false l → aim_next a (plain_due version_due) l ≡ as_plain (next P b version_due l)
   plain-start (version v) h = ap (λ (t : Bool). cond t (on (least_due (header_due (margin_due 2)))) (as_plain (next P b version_due (version v)))) h
   plain-start _ h = refl
 
-  plain-on : (d : Due) (l : CertLine) → IsBehindVersion d → aim_next a (plain_due d) l ≡ as_plain (next P b d l)
+  plain-on : (d : Due) (l : CertLine) → IsPlainDue d → aim_next a (plain_due d) l ≡ as_plain (next P b d l)
   plain-on version_due l h = absurd h
+  plain-on (kind_due s) (lower e) h = ap (λ (t : Bool). cond t (on (least_due (cover_due s e None))) (as_plain (next P b (kind_due s) (lower e)))) h
   plain-on _ l h = refl
 
-  plain-gone : (d : Due) (l : CertLine) → aim_next a (plain_due d) l ≡ as_plain (next P b d l) → (new : Checked) (r : Result Phase CertFault) → IsGone P b (next P b d l) phase.Plain new r →
+  plain-gone : (d : Due) (l : CertLine) → aim_next a (plain_due d) l ≡ as_plain (next P b d l) → Behind (next P b d l) → (new : Checked) (r : Result Phase CertFault) → IsGone P b (next P b d l) phase.Plain new r →
       IsPhaseOutcome a (aim_next a (plain_due d) l) new r
-  plain-gone d l e new r h =
+  plain-gone d l e f new r h =
       gone a P new (next P b d l) (aim_next a (plain_due d) l) phase.Plain refl (ap (next_map lean_goal) e ∙ plain_leads (next P b d l))
-      (behind_lean (next P b d l) (next_behind P b d l)) r h
+      (behind_lean (next P b d l) f) r h
 
-  pub first_plain : (l : CertLine) → IsLeastIn false l → (d : Due) → d ≡ version_due → (new : Checked) (r : Result Phase CertFault) → IsGone P b (next P b d l) phase.Plain new r →
+  pub first_plain : (l : CertLine) → IsLeastIn false l → IsOpenIn false l → (d : Due) → d ≡ version_due → (new : Checked) (r : Result Phase CertFault) → IsGone P b (next P b d l) phase.Plain new r →
       Goes phase.Version d l new r
-  first_plain l h d e new r k =
-      plain-gone d l (subst (λ (d' : Due). aim_next a (plain_due d') l ≡ as_plain (next P b d' l)) (sym e) (plain-start l h)) new r k
+  first_plain l h g d e new r k =
+      subst (λ (d' : Due). Goes phase.Version d' l new r) (sym e)
+      (plain-gone version_due l (plain-start l h) (version_behind P b l g) new r (subst (λ (d' : Due). IsGone P b (next P b d' l) phase.Plain new r) e k))
 
-  pub plain_on : (l : CertLine) (d : Due) → IsBehindVersion d → (new : Checked) (r : Result Phase CertFault) → IsGone P b (next P b d l) phase.Plain new r → Goes phase.Plain d l new r
-  plain_on l d h new r k = plain-gone d l (plain-on d l h) new r k
+  pub plain_on : (l : CertLine) (d : Due) → IsPlainDue d → (new : Checked) (r : Result Phase CertFault) → IsGone P b (next P b d l) phase.Plain new r → Goes phase.Plain d l new r
+  plain_on l d h new r k = plain-gone d l (plain-on d l h) (next_behind P b d l h) new r k
 
   -- ---- the header
 
@@ -113,7 +128,17 @@ module _ (a : Aim) where
   in-header-on s (bound_due s') l h = refl
   in-header-on s _ l h = absurd h
 
-  header-phase : (t : Told) (l : CertLine) (x : Next) → next_map (λ (d : Due). least_due (header_at d)) x ≡ next_map (goal_due (header_phase t l)) x
+  open-header-on : (s : Loosenings) (d : Due) (l : CertLine) → IsHeaderDue s d → aim_next a (plain_due d) l ≡ as_plain (next P b d l)
+  open-header-on s (margin_due v) l h = refl
+  open-header-on s (delta_due v m) l h = refl
+  open-header-on s (bound_due s') l h = refl
+  open-header-on s _ l h = absurd h
+
+  headed-leads : (t : Bool) (s : Loosenings) (d : Due) (l : CertLine) → IsHeaderDue s d → next_map lean_goal (aim_next a (headed t d) l) ≡ next_map (headed t) (lean_next (next P b d l))
+  headed-leads true s d l h = ap (next_map lean_goal) (open-header-on s d l h) ∙ plain_leads (next P b d l)
+  headed-leads false s d l h = ap (next_map lean_goal) (in-header-on s d l h) ∙ header_leads (next P b d l)
+
+  header-phase : (t : Told) (l : CertLine) (x : Next) → next_map (headed (tells_later t)) x ≡ next_map (goal_due (header_phase t l)) x
   header-phase t (margin m) x = refl
   header-phase t (delta m) x = refl
   header-phase t (bound n) x = refl
@@ -153,8 +178,8 @@ module _ (a : Aim) where
 
   pub header_on : (t : Told) (l : CertLine) (d : Due) → IsHeaderDue (told_of t) d → (new : Checked) (r : Result Phase CertFault) → IsGone P b (next P b d l) (header_phase t l) new r → Goes (phase.Header t) d l new r
   header_on t l d h new r k =
-      gone a P new (next P b d l) (aim_next a (least_due (header_at d)) l) (header_phase t l) (header-problem t l)
-      (ap (next_map lean_goal) (in-header-on (told_of t) d l h) ∙ header_leads (next P b d l) ∙ header-phase t l (lean_next (next P b d l)))
+      gone a P new (next P b d l) (aim_next a (headed (tells_later t) d) l) (header_phase t l) (header-problem t l)
+      (headed-leads (tells_later t) (told_of t) d l h ∙ header-phase t l (lean_next (next P b d l)))
       (header-fits t d l h) r k
 
   -- ---- the lower bound
@@ -162,17 +187,21 @@ module _ (a : Aim) where
   abbrev unlimited : Option Dy → Scope
   unlimited e = record { lower = e; bits = None }
 
-  lower-on : (t : Told) (e : Option Dy) (d : Due) → IsKindDue (told_of t) d → next_map lean_goal (aim_next a (least_due (header_at d)) (lower (option_map dyadic_of e))) ≡ on (goal_due (phase.Cover t (unlimited e)) d)
-  lower-on t e (kind_due s) h = refl
-  lower-on t e _ h = absurd h
+  lower-on : (u : Bool) (t : Told) → tells_later t ≡ u → (e : Option Dy) (d : Due) → IsKindDue (told_of t) d →
+      next_map lean_goal (aim_next a (headed u d) (lower (option_map dyadic_of e))) ≡ on (goal_due (phase.Cover t (unlimited e)) d)
+  lower-on false t w e (kind_due s) h = refl
+  lower-on true t w e (kind_due s) h =
+      let low : Option Dyadic = option_map dyadic_of e in
+      ap (λ (v : Bool). next_map lean_goal (cond v (on (least_due (cover_due s low None))) (as_plain (next P b (kind_due s) (lower low))))) (ap has_version_5 h.0 ∙ w)
+  lower-on u t w e _ h = absurd h
 
   pub lower_on : (t : Told) (l : CertLine) (e : Option Dy) → IsLowerIn (Some e) l → (d : Due) (c : Checked) → IsDueTo P b d c → IsKindDue (told_of t) d →
-      IsPhaseOn a (aim_next a (least_due (header_at d)) l) c (phase.Cover t (unlimited e))
+      IsPhaseOn a (aim_next a (goal_due (phase.Lower t) d) l) c (phase.Cover t (unlimited e))
   lower_on t l e k d c at h = record {
     due = d;
     is_due = subst (λ (p : Problem). IsDueTo p b d c) (same (option_map dyadic_of e)) at;
     fits = h;
-    leads = ap (λ (l' : CertLine). next_map lean_goal (aim_next a (least_due (header_at d)) l')) k ∙ lower-on t e d h;
+    leads = ap (λ (l' : CertLine). next_map lean_goal (aim_next a (headed (tells_later t) d) l')) k ∙ lower-on (tells_later t) t refl e d h;
   } where
     same : (low : Option Dyadic) → P ≡ searched P a.goal low None
     same None = refl
@@ -186,8 +215,27 @@ module _ (a : Aim) where
   no-lower-at s (kind_due s') l k h = no-lower s' l h
   no-lower-at s _ l k h = absurd k
 
-  pub lower_missing : (s : Loosenings) (l : CertLine) → IsLowerIn None l → (d : Due) → IsKindDue s d → (f : CertFault) → IsToldAs f BadHeader → IsFaultOrMemory f (aim_next a (least_due (header_at d)) l)
-  lower_missing s l h d k f t = told_fault (aim_next a (least_due (header_at d)) l) f BadHeader (no-lower-at s d l k h) t
+  pub lower_missing : (t : Told) → tells_later t ≡ false → (l : CertLine) → IsLowerIn None l → (d : Due) → IsKindDue (told_of t) d → (f : CertFault) → IsToldAs f BadHeader →
+      IsFaultOrMemory f (aim_next a (goal_due (phase.Lower t) d) l)
+  lower_missing t e l h d k f w =
+      subst (λ (u : Bool). IsFaultOrMemory f (aim_next a (headed u d) l)) (sym e)
+      (told_fault (aim_next a (least_due (header_at d)) l) f BadHeader (no-lower-at (told_of t) d l k h) w)
+
+  check-on : (s : Loosenings) (d : Due) (l : CertLine) → IsKindDue s d → IsLowerIn None l → aim_next a (plain_due d) l ≡ as_plain (next P b d l)
+  check-on s (kind_due s') (lower e) k h = absurd h
+  check-on s (kind_due s') _ k h = refl
+  check-on s _ l k h = absurd k
+
+  check-behind : (s : Loosenings) (d : Due) (l : CertLine) → IsKindDue s d → Behind (next P b d l)
+  check-behind s (kind_due s') l k = kind_behind P b s' l
+  check-behind s _ l k = absurd k
+
+  -- a line of a certificate of the check
+  pub check_on : (t : Told) → tells_later t ≡ true → (l : CertLine) → IsLowerIn None l → (d : Due) → IsKindDue (told_of t) d → (new : Checked) (r : Result Phase CertFault) →
+      IsGone P b (next P b d l) phase.Plain new r → Goes (phase.Lower t) d l new r
+  check_on t e l h d k new r g =
+      subst (λ (u : Bool). IsPhaseOutcome a (aim_next a (headed u d) l) new r) (sym e)
+      (plain-gone d l (check-on (told_of t) d l k h) (check-behind (told_of t) d l k) new r g)
 
   -- ---- the limit of the goal
 

@@ -1,11 +1,12 @@
 -- How far a certificate of a script with a goal is, over what is due to the checker of its check.
-use Rattle.std.specs.Prelude.{◌≡◌, ℕ, [], cond, Option, Some, None, option_map, IsSomeAnd, IsTrue}
+use Rattle.std.specs.Prelude.{◌≡◌, ℕ, [], Bool, true, false, cond, nat_le, Option, Some, None, option_map, IsSomeAnd, IsTrue}
 use Rattle.interval_model.specs.Space.{Space}
 use Rattle.poly_graph.specs.Problem.{Problem}
 use Rattle.poly_graph.specs.ProblemViews.{Parts, problem_of}
 use Rattle.dyadic.specs.Rounding.{Dyadic}
 use Rattle.dyadic.specs.Views.{dyadic_of}
 use Rattle.cover_model.specs.State.{Loosenings, root_state}
+use Rattle.cover_model.specs.Rules.{has_version_5}
 use Rattle.cert_model.specs.Due.{at_point, left_open, Due, version_due, margin_due, delta_due, bound_due, kind_due, next_due, axis_due, yes_due, no_due, lemma_due, root_due, tree_due, coordinate_due, end_due, nothing_due, is_version, is_crossed_box}
 use Rattle.cert_model.specs.Accepted.{reached, is_header}
 use Rattle.cert_model.specs.Least.{LeastDue, header_due, lower_due, cover_due, in_cover_due, covered_due, in_point_due, shown_due, GoalDue, plain_due, least_due, GoalCourse, searched}
@@ -35,6 +36,14 @@ abbrev pub header_at : Due → LeastDue
 header_at (kind_due s) = lower_due s
 header_at d = header_due d
 
+-- in a header, by whether `lower` alone tells that it is one of a least value
+abbrev pub headed : Bool → Due → GoalDue
+headed true d = plain_due d
+headed false d = least_due (header_at d)
+
+abbrev pub tells_later : Told → Bool
+tells_later t = has_version_5 (told_of t)
+
 abbrev pub cover_at : Option Dyadic → Option ℕ → Due → LeastDue
 cover_at e k (kind_due s) = cover_due s e k
 cover_at e k d = in_cover_due e k d
@@ -50,8 +59,8 @@ in_point_at e d = in_point_due e [] d
 abbrev pub goal_due : Phase → Due → GoalDue
 goal_due phase.Version d = plain_due d
 goal_due phase.Plain d = plain_due d
-goal_due (phase.Header t) d = least_due (header_at d)
-goal_due (phase.Lower t) d = least_due (header_at d)
+goal_due (phase.Header t) d = headed (tells_later t) d
+goal_due (phase.Lower t) d = headed (tells_later t) d
 goal_due (phase.Cover t w) d = least_due (cover_at (lower_of w) w.bits d)
 goal_due (phase.InCover w) d = least_due (in_cover_at (lower_of w) w.bits d)
 goal_due (phase.InPoint s e) d = least_due (in_point_at (option_map dyadic_of e) d)
@@ -68,9 +77,14 @@ point_value d = None
 
 -- ---- where each phase may be
 
-abbrev pub IsBehindVersion : Due → Type 0
-IsBehindVersion version_due = ⊥
-IsBehindVersion d = Unit {0}
+-- in a certificate of the check, behind its first line: in its header of a version before 5, in which no `lower` follows
+abbrev pub IsPlainDue : Due → Type 0
+IsPlainDue version_due = ⊥
+IsPlainDue (margin_due v) = nat_le 5 v ≡ false
+IsPlainDue (delta_due v m) = nat_le 5 v ≡ false
+IsPlainDue (bound_due s) = has_version_5 s ≡ false
+IsPlainDue (kind_due s) = has_version_5 s ≡ false
+IsPlainDue d = Unit {0}
 
 -- in a header that told so much of these loosenings, none of it a fault
 abbrev pub IsHeaderDue : Loosenings → Due → Type 0
@@ -112,7 +126,7 @@ IsPointDue s d = ⊥
 
 abbrev pub IsDueIn : Phase → Due → Type 0
 IsDueIn phase.Version d = d ≡ version_due
-IsDueIn phase.Plain d = IsBehindVersion d
+IsDueIn phase.Plain d = IsPlainDue d
 IsDueIn (phase.Header t) d = IsHeaderDue (told_of t) d
 IsDueIn (phase.Lower t) d = IsKindDue (told_of t) d
 IsDueIn (phase.Cover t w) d = IsKindDue (told_of t) d

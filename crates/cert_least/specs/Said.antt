@@ -1,5 +1,5 @@
 -- What lines say where some of them are due.
-use Rattle.std.specs.Prelude.{◌≡◌, ℕ, Bool, true, false, Option, Some, None, option_map}
+use Rattle.std.specs.Prelude.{◌≡◌, ℕ, nat_eq, Bool, true, false, Option, Some, None, option_map}
 use Rattle.dyadic.specs.declared.dy.Dy.{Dy}
 use Rattle.dyadic.specs.Views.{dyadic_of}
 use Rattle.cover_model.specs.Rules.{Line, open_line, stuck}
@@ -16,6 +16,12 @@ abbrev pub IsLeastIn : Bool → CertLine → Type 0
 IsLeastIn true l = l ≡ version 4
 IsLeastIn false (version v) = is_least_version v ≡ false
 IsLeastIn false l = Unit {0}
+
+-- whether it is the first line of version 5, in which a later one tells
+abbrev pub IsOpenIn : Bool → CertLine → Type 0
+IsOpenIn true l = l ≡ version 5
+IsOpenIn false (version v) = nat_eq v 5 ≡ false
+IsOpenIn false l = Unit {0}
 
 abbrev pub IsLowerIn : Option (Option Dy) → CertLine → Type 0
 IsLowerIn (Some e) l = l ≡ lower (option_map dyadic_of e)

@@ -4,7 +4,8 @@ ghost use Rattle.cert_read.specs.Views.{line_of};
 ghost use Rattle.cert_least.specs.declared.phase.Phase.TheVariants as phase;
 ghost use Rattle.cert_least.specs.Aims.{Aim as AimOf};
 ghost use Rattle.cert_least.specs.Judging.{IsReady};
-ghost use Rattle.cert_least.specs.Said.{header_phase, IsCoverIn, IsLeastIn, IsLimitIn, IsLowerIn};
+ghost use Rattle.cert_least.specs.Phases.{tells_later};
+ghost use Rattle.cert_least.specs.Said.{header_phase, IsCoverIn, IsLeastIn, IsLimitIn, IsLowerIn, IsOpenIn};
 ghost use Rattle.cert_least.specs.Steps.{IsAimNext, IsPhaseNext};
 
 use crate::aim::Aim;
@@ -20,6 +21,9 @@ const LEAST_VERSION: u32 = 4;
 
 const LINES_VERSION: u32 = 2;
 
+// The version of certificates of both kinds: `lower` behind the header tells that it is one of least values.
+const OPEN_VERSION: u32 = 5;
+
 // Whether the line begins a certificate of least values.
 fn is_least(line: &Line) -> bool
     ensures { IsLeastIn result (line_of line.now) }
@@ -28,6 +32,23 @@ fn is_least(line: &Line) -> bool
         Line::Version(version) => *version == LEAST_VERSION,
         _ => false,
     }
+}
+
+// Whether the line begins a certificate of either kind.
+fn is_open(line: &Line) -> bool
+    ensures { IsOpenIn result (line_of line.now) }
+{
+    match line {
+        Line::Version(version) => *version == OPEN_VERSION,
+        _ => false,
+    }
+}
+
+// Whether it is still open of which kind the certificate is whose header told so much.
+fn tells_later(told: Told) -> bool
+    ensures { result ≡ tells_later told }
+{
+    told.version >= OPEN_VERSION
 }
 
 // The lower bound that the line tells.
@@ -92,6 +113,14 @@ pub fn first_line(checker: &mut Checker<'_>, line: &Line) -> Result<Phase, CertF
         };
         return give(checker, &version, Phase::Header(told));
     }
+    if is_open(line) {
+        let told = Told {
+            version: OPEN_VERSION,
+            margin: 0,
+            delta: 0,
+        };
+        return give(checker, line, Phase::Header(told));
+    }
     give(checker, line, Phase::Plain)
 }
 
@@ -103,7 +132,7 @@ pub fn plain_line(checker: &mut Checker<'_>, line: &Line) -> Result<Phase, CertF
     give(checker, line, Phase::Plain)
 }
 
-/// A line of the header of a certificate of least values, behind the first.
+/// A line of a header behind the first, where `lower` may follow.
 pub fn header_line(checker: &mut Checker<'_>, told: Told, line: &Line) -> Result<Phase, CertFault>
     ensures { (a : AimOf) →
         IsPhaseNext a (phase.Header told) checker.old (line_of line.now) checker.new result }
@@ -111,14 +140,26 @@ pub fn header_line(checker: &mut Checker<'_>, told: Told, line: &Line) -> Result
     give(checker, line, behind_header(told, line))
 }
 
-/// `lower`.
-pub fn lower_line(_checker: &Checker<'_>, told: Told, line: &Line) -> Result<Phase, CertFault>
+// Another line than `lower`: where it is open of which kind the certificate is, it is one of the check then.
+fn no_lower(checker: &mut Checker<'_>, told: Told, line: &Line) -> Result<Phase, CertFault>
+    requires { IsLowerIn None (line_of line.now) }
     ensures { (a : AimOf) →
-        IsPhaseNext a (phase.Lower told) _checker.now (line_of line.now) _checker.now result }
+        IsPhaseNext a (phase.Lower told) checker.old (line_of line.now) checker.new result }
+{
+    if tells_later(told) {
+        return give(checker, line, Phase::Plain);
+    }
+    Err(CertFault::BadHeader { line: 0 })
+}
+
+/// `lower`, or in its place a line of a certificate of the check.
+pub fn lower_line(checker: &mut Checker<'_>, told: Told, line: &Line) -> Result<Phase, CertFault>
+    ensures { (a : AimOf) →
+        IsPhaseNext a (phase.Lower told) checker.old (line_of line.now) checker.new result }
 {
     match lower_in(line) {
         Some(lower) => Ok(Phase::Cover(told, Scope { lower, bits: None })),
-        None => Err(CertFault::BadHeader { line: 0 }),
+        None => no_lower(checker, told, line),
     }
 }
 

@@ -24,11 +24,11 @@ pub struct Scope {
 pub enum Phase {
     /// The first line.
     Version,
-    /// A later line of a certificate of the check.
+    /// A later line of a certificate of the check, of which no `lower` may follow.
     Plain,
-    /// A line of the header of a certificate of least values, behind the first.
+    /// A line of a header behind the first, where `lower` may follow.
     Header(Told),
-    /// `lower`.
+    /// `lower`, or in version 5 a line of a certificate of the check.
     Lower(Told),
     /// `cover`, or where there is no limit before it, `goal`.
     Cover(Told, Scope),

@@ -13,13 +13,17 @@ use Rattle.cert_model.specs.Accepted.{next, loosenings_fit, ruled_line, tree_lin
 use Rattle.cert_model.proofs.Invariant.{IfOn, given_on, holds_at_end}
 
 -- a version that is read
-pub version_limits : (v : ℕ) → IsTrue (is_version v) → (1 ≤ v) × (v ≤ 2)
-version_limits v h = by (nat_eq v 1) refl (nat_eq v 2) refl h
+pub version_limits : (v : ℕ) → IsTrue (is_version v) → (1 ≤ v) × (v ≤ 5)
+version_limits v h = by (nat_eq v 1) refl (nat_eq v 2) refl (nat_eq v 5) refl h
   where
-    by : (t : Bool) → nat_eq v 1 ≡ t → (u : Bool) → nat_eq v 2 ≡ u → IsTrue (t || u) → (1 ≤ v) × (v ≤ 2)
-    by true e u f h = let k = eqb→eq v 1 (passes _ e) in (omega (arith, k), omega (arith, k))
-    by false e true f h = let k = eqb→eq v 2 (passes _ f) in (omega (arith, k), omega (arith, k))
-    by false e false f h = absurd (true≢false (sym h))
+    is : (n : ℕ) → nat_eq v n ≡ true → v ≡ n
+    is n e = eqb→eq v n (passes _ e)
+
+    by : (t : Bool) → nat_eq v 1 ≡ t → (u : Bool) → nat_eq v 2 ≡ u → (w : Bool) → nat_eq v 5 ≡ w → IsTrue (t || u || w) → (1 ≤ v) × (v ≤ 5)
+    by true e u f w g h = let k = is 1 e in (omega (arith, k), omega (arith, k))
+    by false e true f w g h = let k = is 2 f in (omega (arith, k), omega (arith, k))
+    by false e false f true g h = let k = is 5 g in (omega (arith, k), omega (arith, k))
+    by false e false f false g h = absurd (true≢false (sym h))
 
 -- the margin and delta of what is due, where they are known
 abbrev pub known : Due → Option Loosenings
@@ -206,8 +210,8 @@ accepted_fits p b bytes s v e = (holds_at_end p b (FitsDue (λ v. IsTrue (is_ver
 
 -- the version, margin and delta of accepted bytes are in their limits
 pub header_fits : (p : Problem) (b : Option ℕ) (bytes : List ℕ) (s : Loosenings) (v : Value) → IsAccepted p b bytes s v →
-    (1 ≤ s.delta_bits) × (s.delta_bits ≤ 30) × (s.delta_bits < s.margin_bits) × (s.margin_bits ≤ 60) × (1 ≤ s.version) × (s.version ≤ 2)
+    (1 ≤ s.delta_bits) × (s.delta_bits ≤ 30) × (s.delta_bits < s.margin_bits) × (s.margin_bits ≤ 60) × IsTrue (is_version s.version)
 header_fits p b bytes s v e =
     let all = accepted_fits p b bytes s v e in
-    let h = loosening_limits s.margin_bits s.delta_bits all.1 in let n = version_limits s.version all.0 in
-    (h.0, h.1, h.2, h.3, n.0, n.1)
+    let h = loosening_limits s.margin_bits s.delta_bits all.1 in
+    (h.0, h.1, h.2, h.3, all.0)

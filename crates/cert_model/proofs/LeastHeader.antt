@@ -1,5 +1,6 @@
 -- The header of a least value.
-use Rattle.std.proofs.Common.{◌≡◌, ℕ, List, Bool, true, false, IsTrue, Option, Some, None, refl}
+use Rattle.std.proofs.Common.{◌≡◌, ℕ, List, Bool, true, false, ◌||◌, IsTrue, Option, Some, None, refl, arith, nat_eq, nat_le, eqb→eq, leb→le}
+use Rattle.std.specs.Bool.{passes}
 use Rattle.dyadic.specs.Rounding.{Dyadic}
 use Rattle.interval_model.specs.Space.{Space}
 use Rattle.poly_graph.specs.Problem.{Problem}
@@ -7,18 +8,25 @@ use Rattle.cover_model.specs.State.{Loosenings}
 use Rattle.cover_model.specs.Rules.{Line, open_line}
 use Rattle.cover_line.specs.Words.{word_of}
 use Rattle.cert_read.specs.CertLine.{CertLine, lower, goal, cover, point_word, rule_line, over}
-use Rattle.cert_model.specs.Due.{CertFault, Standing, at_point, left_open, Due, kind_due, nothing_due, Next, on, faulty, BadHeader, RuleFails, OverFails, names_well}
+use Rattle.cert_model.specs.Due.{is_version, CertFault, Standing, at_point, left_open, Due, kind_due, nothing_due, Next, on, faulty, BadHeader, RuleFails, OverFails, names_well}
 use Rattle.cert_model.specs.Accepted.{next, ruled_line, loosenings_fit}
-use Rattle.cert_model.specs.Least.{LeastDue, header_due, lower_due, cover_due, in_cover_due, covered_due, in_point_due, shown_due, Least, least, is_over, tree_space, leaves_open, in_header, in_cover, in_point, searched, can_limit, over_line, leaf_line, cover_line, least_next, IsGoalAccepted}
+use Rattle.cert_model.specs.Least.{is_lines_version, LeastDue, header_due, lower_due, cover_due, in_cover_due, covered_due, in_point_due, shown_due, Least, least, is_over, tree_space, leaves_open, in_header, in_cover, in_point, searched, can_limit, over_line, leaf_line, cover_line, least_next, IsGoalAccepted}
 use Rattle.cert_model.proofs.Invariant.{IfOn, cond_on}
 use Rattle.cert_model.proofs.Header.{Fits, FitsDue, next_fits}
 use Rattle.cert_model.proofs.LeastCourse.{least_is}
 
 abbrev IsSecond : ℕ → Type 0
-IsSecond v = v ≡ 2
+IsSecond v = IsTrue (is_lines_version v)
 
 abbrev Second : Loosenings → Type 0
 Second s = Fits IsSecond (Some s)
+
+lines-of-five : (v : ℕ) → IsTrue (is_version v) → IsTrue (nat_le 5 v) → IsTrue (is_lines_version v)
+lines-of-five v h five = by (nat_eq v 1) refl h
+  where
+    by : (t : Bool) → nat_eq v 1 ≡ t → IsTrue (t || nat_eq v 2 || nat_eq v 5) → IsTrue (is_lines_version v)
+    by true e k = let one = eqb→eq v 1 (passes _ e) in let past = leb→le 5 v (passes _ five) in absurd (omega (arith, one, past))
+    by false e k = k
 
 -- the loosenings of what is due, where they are known, are in their limits
 abbrev FitsLeast : LeastDue → Type 0
@@ -90,5 +98,5 @@ module _ (p : Problem) (g : ℕ) (room : Bool) (b : Option ℕ) where
   line-fits (in_point_due low left d) l h = point-line low left d l h
   line-fits (shown_due s x) l h = tt
 
-  pub least_header_fits : (bytes : List ℕ) (s : Loosenings) (x : Least) → IsGoalAccepted p g room b bytes s (least x) → IsTrue (loosenings_fit s.margin_bits s.delta_bits) × (s.version ≡ 2)
-  least_header_fits bytes s x e = let h : Second s = least_is p g room b FitsLeast refl line-fits (λ s x. Second s) (λ s low left h. h) (λ s x h. h) bytes s x e in (h.1, h.0)
+  pub least_header_fits : (bytes : List ℕ) (s : Loosenings) (x : Least) → IsGoalAccepted p g room b bytes s (least x) → IsTrue (loosenings_fit s.margin_bits s.delta_bits) × IsTrue (is_lines_version s.version)
+  least_header_fits bytes s x e = let h : Second s = least_is p g room b FitsLeast refl line-fits (λ s low fits five. (lines-of-five s.version fits.0 five, fits.1)) (λ s x. Second s) (λ s low left h. h) (λ s x h. h) bytes s x e in (h.1, h.0)

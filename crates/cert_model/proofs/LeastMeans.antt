@@ -136,7 +136,7 @@ module _ (p : Problem) (g : ℕ) (room : Bool) (b : Option ℕ) where
   fine-step (shown_due s x) l h = tt
 
   pub least_value : (bytes : List ℕ) (s : Loosenings) (x : Least) → IsGoalAccepted p g room b bytes s (least x) → IsLeast s x
-  least_value bytes s x e = least_is p g room b FineLeast tt fine-step IsLeast (λ s low left h. (h, tt)) (λ s x h. h) bytes s x e
+  least_value bytes s x e = least_is p g room b FineLeast tt fine-step (λ s low fits five. tt) IsLeast (λ s low left h. (h, tt)) (λ s x h. h) bytes s x e
 
 -- ---- points of an over cover
 

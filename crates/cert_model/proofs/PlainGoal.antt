@@ -1,12 +1,13 @@
 -- What is accepted of a script with a goal as a certificate of its check is so without the goal.
-use Rattle.std.proofs.Common.{◌≡◌, ℕ, suc, List, [], ◌∷◌, Bool, true, false, cond, Option, nat_le, length, take}
+use Rattle.std.proofs.Common.{◌≡◌, ℕ, suc, List, [], ◌∷◌, Bool, true, false, cond, Option, None, nat_le, length, take}
 use Rattle.poly_graph.specs.Problem.{Problem}
 use Rattle.cover_model.specs.State.{Loosenings}
 use Rattle.cert_read.specs.Lines.{lines_of, lines_so_far}
-use Rattle.cert_read.specs.CertLine.{CertLine, version, Parsed, too_long, bad_line, bad_number, line, parsed}
-use Rattle.cert_model.specs.Due.{CertFault, Due, version_due, margin_due, Value, Next, on, faulty}
+use Rattle.cover_model.specs.Rules.{has_version_5}
+use Rattle.cert_read.specs.CertLine.{CertLine, version, lower, Parsed, too_long, bad_line, bad_number, line, parsed}
+use Rattle.cert_model.specs.Due.{CertFault, Due, version_due, margin_due, kind_due, Value, Next, on, faulty}
 use Rattle.cert_model.specs.Accepted.{next, next_parsed, CourseOf, stopped, reached, course_next, course_by, course, Verdict, accepted, refused, at_end, ended, cut_off, verdict_of, verdict_by, most_bytes, IsAccepted}
-use Rattle.cert_model.specs.Least.{LeastDue, header_due, covered_due, shown_due, LeastNext, least_next, least_at_end, is_least_version, GoalDue, plain_due, least_due, plain, as_plain, as_least, goal_next, goal_step, GoalCourse, goal_course, GoalVerdict, plain_verdict, goal_ended, IsGoalAccepted}
+use Rattle.cert_model.specs.Least.{LeastDue, header_due, cover_due, covered_due, shown_due, LeastNext, least_next, least_at_end, is_least_version, GoalDue, plain_due, least_due, plain, as_plain, as_least, goal_next, goal_step, GoalCourse, goal_course, GoalVerdict, plain_verdict, goal_ended, IsGoalAccepted}
 
 module _ (p : Problem) (g : ℕ) (room : Bool) (b : Option ℕ) (s : Loosenings) (v : Value) where
   abbrev IsPlain : GoalVerdict → Type 0
@@ -53,14 +54,15 @@ module _ (p : Problem) (g : ℕ) (room : Bool) (b : Option ℕ) (s : Loosenings)
   by-next (on d) n k k' ih e = ih d e
   by-next (faulty f) n k k' ih e = absurd (not-refused f n e)
 
-  by-version : (t : Bool) (x : Next) (n : ℕ) (k : GoalDue → GoalCourse) (k' : Due → CourseOf Due) → ((d : Due) → Follows (k (plain_due d)) (k' d)) → ((d : LeastDue) → IsPlain (goal_ended (k (least_due d))) → ⊥) →
-      Follows (course_next (cond t (on (least_due (header_due (margin_due 2)))) (as_plain x)) n k) (course_next x n k')
-  by-version true x n k k' ih never e = absurd (never (header_due (margin_due 2)) e)
-  by-version false x n k k' ih never e = by-next x n k k' ih e
+  by-test : (t : Bool) (l : LeastDue) (x : Next) (n : ℕ) (k : GoalDue → GoalCourse) (k' : Due → CourseOf Due) → ((d : Due) → Follows (k (plain_due d)) (k' d)) → ((d : LeastDue) → IsPlain (goal_ended (k (least_due d))) → ⊥) →
+      Follows (course_next (cond t (on (least_due l)) (as_plain x)) n k) (course_next x n k')
+  by-test true l x n k k' ih never e = absurd (never l e)
+  by-test false l x n k k' ih never e = by-next x n k k' ih e
 
   by-line : (d : Due) (l : CertLine) (n : ℕ) (k : GoalDue → GoalCourse) (k' : Due → CourseOf Due) → ((d : Due) → Follows (k (plain_due d)) (k' d)) → ((d : LeastDue) → IsPlain (goal_ended (k (least_due d))) → ⊥) →
       Follows (course_next (goal_next p g room b (plain_due d) l) n k) (course_next (next p b d l) n k')
-  by-line version_due (version i) n k k' ih never e = by-version (is_least_version i) (next p b version_due (version i)) n k k' ih never e
+  by-line version_due (version i) n k k' ih never e = by-test (is_least_version i) (header_due (margin_due 2)) (next p b version_due (version i)) n k k' ih never e
+  by-line (kind_due s) (lower low) n k k' ih never e = by-test (has_version_5 s) (cover_due s low None) (next p b (kind_due s) (lower low)) n k k' ih never e
   by-line d l n k k' ih never e = by-next (next p b d l) n k k' ih e
 
   by-parsed : (d : Due) (x : Parsed) (n : ℕ) (k : GoalDue → GoalCourse) (k' : Due → CourseOf Due) → ((d : Due) → Follows (k (plain_due d)) (k' d)) → ((d : LeastDue) → IsPlain (goal_ended (k (least_due d))) → ⊥) →

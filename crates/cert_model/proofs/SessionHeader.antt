@@ -9,7 +9,7 @@ use Rattle.cert_model.specs.Accepted.{next, most_lemmas, loosenings_fit, Verdict
 use Rattle.cert_model.specs.Session.{Part, SessionDue, header_due, checks_due, part_due, keep_due, first_due, inside_due, all_done, is_session_version, first_part, next_part, in_header, inside, in_part, none_complete, session_next, session_start, session_at_end, SessionVerdict, one_verdict, verdict_of_several, session_verdict, AreAccepted}
 use Rattle.cert_model.specs.SessionLaws.{IsVersionFor}
 use Rattle.cert_model.proofs.Invariant.{IfOn, IfAccepted, given_on, verdict_shows}
-use Rattle.cert_model.proofs.Header.{Fits, FitsDue, next_fits, accepted_fits, version_limits}
+use Rattle.cert_model.proofs.Header.{Fits, FitsDue, next_fits, accepted_fits}
 
 abbrev IsThird : ℕ → Type 0
 IsThird v = IsTrue (is_session_version v)
@@ -75,11 +75,11 @@ FitFor n s = IsTrue (loosenings_fit s.margin_bits s.delta_bits) × IsVersionFor 
 
 one-fits : (p : Problem) (b : Option ℕ) (bytes : List ℕ) (w : Verdict) → verdict p b bytes ≡ w → IfAccepted (λ s (values : List Value). FitFor 1 s) (one_verdict w)
 one-fits p b bytes (refused f n) h = tt
-one-fits p b bytes (accepted s v) h = let f = accepted_fits p b bytes s v h in (f.1, version_limits s.version f.0)
+one-fits p b bytes (accepted s v) h = let f = accepted_fits p b bytes s v h in (f.1, f.0)
 
 several-fit : (n : ℕ) (w : SessionVerdict) → IfAccepted (λ s (values : List Value). Fits IsThird (Some s)) w → IfAccepted (λ s (values : List Value). FitFor (suc (suc n)) s) w
 several-fit n (refused f i) h = tt
-several-fit n (accepted s values) h = (h.1, eqb→eq s.version 3 (passes _ h.0))
+several-fit n (accepted s values) h = (h.1, h.0)
 
 session-fits : (ps : List (Problem × Bool)) (b : Option ℕ) (bytes : List ℕ) → IfAccepted (λ s (values : List Value). FitFor (length ps) s) (session_verdict ps b bytes)
 session-fits [] b bytes = tt

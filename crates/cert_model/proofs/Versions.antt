@@ -1,12 +1,12 @@
 -- What follows the rules in version 2 does so in version 3.
-use Rattle.std.proofs.Common.{◌≡◌, ℕ, zero, suc, List, [], ◌∷◌, ◌++◌, Bool, true, not, ◌&&◌, ◌||◌, cond, Option, Some, None, refl, ap, ap₂, sym, ◌∙◌, nat_le}
+use Rattle.std.proofs.Common.{◌≡◌, ℕ, zero, suc, List, [], ◌∷◌, ◌++◌, Bool, true, false, not, ◌&&◌, ◌||◌, cond, Option, Some, None, refl, ap, ap₂, sym, ◌∙◌, nat_le}
 use Rattle.std.specs.Cmp.{both_ways}
 use Rattle.poly_graph.specs.Marks.{Mark, is_yes}
 use Rattle.poly_graph.specs.Problem.{Problem}
 use Rattle.cover_model.specs.State.{State, Loosenings, margin_of, with_no, may, misses, root_state}
-use Rattle.interval_model.specs.Space.{Space, widest}
-use Rattle.cover_model.specs.Rules.{Line, narrow_by, Narrowing, end_by, void_by, branch_by, cut_axis, flip_axis, case_atom, stay_by, stuck_atom, Left, one, two, can_narrow, narrowed_to, has_version_2, pulled, voided, narrowing, is_stuck_atom, rule}
-use Rattle.cover_model.specs.Honest.{is_honest, is_some_space, none_empty_from, none_below, not_shown, settled, all_in_yes, conjuncts, is_small, is_wide, is_middle_at}
+use Rattle.interval_model.specs.Space.{Space, widest, test_axis}
+use Rattle.cover_model.specs.Rules.{Line, narrow_by, Narrowing, end_by, void_by, branch_by, cut_axis, flip_axis, case_atom, stay_by, stuck_atom, Left, one, two, can_narrow, narrowed_to, has_version_2, has_version_5, pulled, voided, narrowing, is_stuck_atom, rule}
+use Rattle.cover_model.specs.Honest.{is_honest, is_some_space, none_empty_from, none_below, not_shown, settled, all_in_yes, conjuncts, is_small, is_wide, is_wide_domain, may_be_cut, is_middle_at}
 use Rattle.cover_model.specs.Derivation.{Tree, leaf, then, fork, Lawful, at_closed, at_left, at_step, at_fork}
 use Rattle.cert_model.specs.Due.{Standing, left_open}
 use Rattle.cert_model.specs.Written.{leaf_standing, step_standing, fork_standing, left_standing, tree_standing, LemmaTree, AreLemmaTrees, lemma_states}
@@ -26,8 +26,11 @@ module _ (p : Problem) (s : Loosenings) (e : s.version ≡ 2) where
   reads : has_version_2 s ≡ true
   reads = ap (nat_le 2) e
 
+  before : has_version_5 s ≡ false
+  before = ap (nat_le 5) e
+
   lawful : (S : State) (n : Narrowing) → can_narrow p (in_version_3 s) S n ≡ can_narrow p s S n
-  lawful S n = both_ways (can_narrow p (in_version_3 s) S n) (can_narrow p s S n) (can_narrow_in p (in_version_3 s) s.version S n (λ h. reads)) (can_narrow_in p s 3 S n (λ h. refl))
+  lawful S n = both_ways (can_narrow p (in_version_3 s) S n) (can_narrow p s S n) (can_narrow_in p (in_version_3 s) s.version S n (λ h. reads) (sym before)) (can_narrow_in p s 3 S n (λ h. refl) before)
 
   pub rule_same : (lemmas : List State) (S : State) (l : Line) → rule p (in_version_3 s) lemmas S l ≡ rule p s lemmas S l
   rule_same lemmas S (narrow_by n) = ap₂ (λ (t : Bool) (o : Option Space). cond t (pulled S o) None) (lawful S n) (narrowed_in p s 3 S n)
@@ -94,7 +97,7 @@ lawful_in_version_3 s e p may_keep x h = (part-lawful p s e may_keep x h, part-v
 
 -- ---- honesty
 
-module _ (s : Loosenings) (p : Problem) where
+module _ (s : Loosenings) (e : s.version ≡ 2) (p : Problem) where
   empty-same : (S : State) (j : ℕ) (marks : List Mark) → none_empty_from p (in_version_3 s) S j marks ≡ none_empty_from p s S j marks
   empty-same S j [] = refl
   empty-same S j (m ∷ marks) = ap (λ (t : Bool). (not (is_yes m) || is_some_space (narrowing p s S j)) && t) (empty-same S (suc j) marks)
@@ -106,8 +109,11 @@ module _ (s : Loosenings) (p : Problem) where
   below-same S zero = refl
   below-same S (suc j) = ap (λ (t : Bool). not (is_stuck_atom p s S j) && t) (below-same S j)
 
+  cuts-same : (w axis : ℕ) (space : Space) → may_be_cut w (in_version_3 s) axis space ≡ may_be_cut w s axis space
+  cuts-same w axis space = ap (λ (t : Bool). cond t (test_axis (is_wide_domain w) axis space) (is_wide w axis (widest space))) (sym (ap (λ (v : ℕ). nat_le 5 v) e))
+
   pub honest_in_version_3 : (w : ℕ) (S : State) (l : Line) → is_honest p w (in_version_3 s) S l ≡ is_honest p w s S l
-  honest_in_version_3 w S (branch_by (cut_axis axis c)) = ap (λ (t : Bool). not_shown p s S && t && is_wide w axis (widest S.space) && is_middle_at axis c S.space) (settled-same S)
+  honest_in_version_3 w S (branch_by (cut_axis axis c)) = ap₂ (λ (t : Bool) (u : Bool). not_shown p s S && t && u && is_middle_at axis c S.space) (settled-same S) (cuts-same w axis S.space)
   honest_in_version_3 w S (branch_by (flip_axis axis)) = ap (λ (t : Bool). not_shown p s S && t) (settled-same S)
   honest_in_version_3 w S (branch_by (case_atom j)) = ap (λ (t : Bool). not_shown p s S && t && may p s (with_no S j) && not (misses p (margin_of s) S.space j)) (settled-same S)
   honest_in_version_3 w S (stay_by (stuck_atom j)) = ap₂ (λ (t : Bool) (u : Bool). not_shown p s S && t && is_small w S.space && u) (settled-same S) (below-same S j)

@@ -74,9 +74,9 @@ given false d f = faulty f
 
 -- ---- the header
 
--- a version of the format that is read
+-- a version of the format for one check
 abbrev pub is_version : ℕ → Bool
-is_version v = nat_eq v 1 || nat_eq v 2
+is_version v = nat_eq v 1 || nat_eq v 2 || nat_eq v 5
 
 abbrev pub same_bound : Option ℕ → Option ℕ → Bool
 same_bound None None = true

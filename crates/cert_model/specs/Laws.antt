@@ -11,7 +11,7 @@ use Rattle.cover_model.specs.Rules.{make_false}
 use Rattle.cert_read.specs.LineText.{IsSpelledBound, IsSpelled}
 use Rattle.cert_read.specs.CertLine.{CertLine, version, margin, delta, bound, cover, tree_word, end_word, rule_line, crossing}
 use Rattle.cert_read.specs.Lines.{lines_of}
-use Rattle.cert_model.specs.Due.{Standing, Value, version_due, at_point, left_open, is_shown, coordinates}
+use Rattle.cert_model.specs.Due.{Standing, Value, is_version, version_due, at_point, left_open, is_shown, coordinates}
 use Rattle.cert_model.specs.Accepted.{IsAccepted, is_header, course_of_lines, ended, verdict, certificate_text, most_bytes, most_lemmas, accepted}
 use Rattle.cert_model.specs.Derived.{AreDerived, states_of, IsCover, AreNear, EndsOnce, AreSingle}
 use Rattle.cert_model.specs.Standing.{standing, IsHonest, branches}
@@ -20,7 +20,7 @@ use Rattle.cert_model.specs.Written.{rule_lines, NamesWell, left_standing, tree_
 -- The version, margin and delta of an accepted certificate's header are in their limits.
 abbrev pub HeaderFits : Type 0
 HeaderFits = (p : Problem) (bound : Option ℕ) (bytes : List ℕ) (s : Loosenings) (v : Value) → IsAccepted p bound bytes s v →
-    (1 ≤ s.delta_bits) × (s.delta_bits ≤ 30) × (s.delta_bits < s.margin_bits) × (s.margin_bits ≤ 60) × (1 ≤ s.version) × (s.version ≤ 2)
+    (1 ≤ s.delta_bits) × (s.delta_bits ≤ 30) × (s.delta_bits < s.margin_bits) × (s.margin_bits ≤ 60) × IsTrue (is_version s.version)
 
 -- The last line of accepted bytes is `end`, and no other line is.
 abbrev pub EndIsLast : Type 0

@@ -6,7 +6,7 @@
 --
 -- A line `goal` before the cover says that the cover is one of the problem with the bound as a limit of the goal: what it leaves out has a
 -- value above the bound.
-use Rattle.std.specs.Prelude.{◌≡◌, ℕ, suc, List, Bool, true, false, cond, ◌&&◌, Option, Some, None, IsTrue, nat_eq, nat_le, length}
+use Rattle.std.specs.Prelude.{◌≡◌, ℕ, suc, List, Bool, true, false, cond, ◌&&◌, ◌||◌, Option, Some, None, IsTrue, nat_eq, nat_le, length}
 use Rattle.dyadic.specs.Fraction.{sum_of}
 use Rattle.dyadic.specs.Rounding.{Dyadic, Ext, below_all, finite, above_all, at, end_of, end_at_most, exact, two_to_minus}
 use Rattle.interval_model.specs.Interval.{Interval, nothing, between, within}
@@ -15,7 +15,7 @@ use Rattle.poly_graph.specs.Problem.{Problem}
 use Rattle.cover_line.specs.Words.{word_of}
 use Rattle.cert_read.specs.CertLine.{CertLine, version, lower, goal, cover, point_word, rule_line, over, Parsed}
 use Rattle.cover_model.specs.State.{Loosenings, atom_enclosure, root_state}
-use Rattle.cover_model.specs.Rules.{Line, open_line, stay_by}
+use Rattle.cover_model.specs.Rules.{has_version_5, Line, open_line, stay_by}
 use Rattle.cert_model.specs.Due.{Standing, CertFault, BadHeader, RuleFails, OverFails, Missing, Extra, Value, at_point, left_open, Due, version_due, margin_due, kind_due, root_due, tree_due, nothing_due, NextOf, Next, on, faulty, names_well, is_crossed_box}
 use Rattle.cert_model.specs.Limited.{is_limit, limited}
 use Rattle.cert_model.specs.Accepted.{next, ruled_line, parsed_by, CourseOf, course_by, VerdictOf, accepted, refused, at_end, ended_by, most_bytes, verdict_of}
@@ -151,6 +151,10 @@ least_next p g room b (shown_due s x) l = faulty Extra
 
 -- ---- certificates of a script with a goal and one check: of its check, or of its least value
 
+-- the lines of a least value are those of such a version
+abbrev pub is_lines_version : ℕ → Bool
+is_lines_version v = nat_eq v 2 || nat_eq v 5
+
 -- a version of the format for least values
 abbrev pub is_least_version : ℕ → Bool
 is_least_version v = nat_eq v 4
@@ -174,12 +178,17 @@ abbrev pub as_least : LeastNext → GoalNext
 as_least (on d) = on (least_due d)
 as_least (faulty f) = faulty f
 
--- The version tells which one it is. Behind it the lines that version 2 has are read as there.
+-- Version 4 tells that it is one of the least value; the lines that version 2 has are read as there. In version 5 the line `lower` behind the
+-- header tells so.
 abbrev pub version_next : Problem → Option ℕ → ℕ → GoalNext
 version_next p b v = cond (is_least_version v) (on (least_due (header_due (margin_due 2)))) (as_plain (next p b version_due (version v)))
 
+abbrev pub lower_next : Problem → Option ℕ → Loosenings → Option Dyadic → GoalNext
+lower_next p b s low = cond (has_version_5 s) (on (least_due (cover_due s low None))) (as_plain (next p b (kind_due s) (lower low)))
+
 abbrev pub goal_next : Problem → ℕ → Bool → Option ℕ → GoalDue → CertLine → GoalNext
 goal_next p g room b (plain_due version_due) (version v) = version_next p b v
+goal_next p g room b (plain_due (kind_due s)) (lower low) = lower_next p b s low
 goal_next p g room b (plain_due d) l = as_plain (next p b d l)
 goal_next p g room b (least_due d) l = as_least (least_next p g room b d l)
 

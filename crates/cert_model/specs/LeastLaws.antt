@@ -9,7 +9,7 @@ use Rattle.cover_model.specs.State.{Loosenings, delta_of, MeetsAt, MeetsForm}
 use Rattle.cert_model.specs.Due.{Value, coordinates}
 use Rattle.cert_model.specs.Derived.{AreNear}
 use Rattle.cert_model.specs.Accepted.{IsAccepted, loosenings_fit}
-use Rattle.cert_model.specs.Least.{Least, plain, least, lower_end, upper_at, IsGoalAccepted}
+use Rattle.cert_model.specs.Least.{is_lines_version, Least, plain, least, lower_end, upper_at, IsGoalAccepted}
 
 -- the value of the goal at the point, the term of atom g
 abbrev pub IsNotBelow : Problem → ℕ → Option Dyadic → List Coordinate → Type 0
@@ -29,10 +29,10 @@ UpperHolds = (p : Problem) → IsProblem p → (g : ℕ) → g < length p.atoms 
     IsPoint (sorts_of_problem p) (coordinates space) × MeetsAt p (delta_of s) (coordinates space) × AreNear (exact (delta_of s)) p.axes (coordinates space) ×
     IsTrue (end_at_most (at (term_value (coordinates space) (term_of p g))) (end_of (upper_at p g space)))
 
--- Margin and delta are in their limits, and the lines are read as in version 2.
+-- Margin and delta are in their limits, and the lines are read as in version 2, or 5.
 abbrev pub LeastHeaderFits : Type 0
 LeastHeaderFits = (p : Problem) (g : ℕ) (room : Bool) (bound : Option ℕ) (bytes : List ℕ) (s : Loosenings) (x : Least) → IsGoalAccepted p g room bound bytes s (least x) →
-    IsTrue (loosenings_fit s.margin_bits s.delta_bits) × (s.version ≡ 2)
+    IsTrue (loosenings_fit s.margin_bits s.delta_bits) × IsTrue (is_lines_version s.version)
 
 -- Where they are accepted as a certificate of the check, they are so without a goal.
 abbrev pub PlainIsAccepted : Type 0

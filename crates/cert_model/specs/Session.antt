@@ -4,7 +4,7 @@
 -- many lemmas of the part before are its first ones, under the same numbers. It may keep them where the part before is a cover, all
 -- commands of the check before are in force at its own, and neither declared box is empty. With one check a session's certificate is
 -- that check's own.
-use Rattle.std.specs.Prelude.{◌≡◌, ℕ, suc, List, [], ◌∷◌, ◌++◌, Bool, not, ◌&&◌, cond, Option, nat_eq, nat_le, length, take, map, All, IsTrue}
+use Rattle.std.specs.Prelude.{◌≡◌, ℕ, suc, List, [], ◌∷◌, ◌++◌, Bool, not, ◌&&◌, ◌||◌, cond, Option, nat_eq, nat_le, length, take, map, All, IsTrue}
 use Rattle.cert_read.specs.CertLine.{CertLine, version, checks, cover, keep, point_word, Parsed}
 use Rattle.cert_read.specs.Lines.{lines_of}
 use Rattle.poly_graph.specs.Problem.{Problem}
@@ -52,7 +52,7 @@ kept_by e p lemmas q = cond (e && not (is_crossed_box p) && not (is_crossed_box 
 
 -- a version of the format for several checks
 abbrev pub is_session_version : ℕ → Bool
-is_session_version v = nat_eq v 3
+is_session_version v = nat_eq v 3 || nat_eq v 5
 
 abbrev pub first_part : Problem → List (Problem × Bool) → Part
 first_part p later = record { problem = p; may_keep = []; later = later; values = [] }

@@ -10,7 +10,7 @@ use Rattle.cover_model.specs.Rules.{Line}
 use Rattle.cover_model.specs.Honest.{is_honest}
 use Rattle.cover_model.specs.Derivation.{Tree, tree_lines, Lawful, Among}
 use Rattle.cert_read.specs.CertLine.{CertLine, version, margin, delta, bound, checks, cover, keep, point_word, tree_word, end_word, crossing}
-use Rattle.cert_model.specs.Due.{Standing, Value, at_point, left_open, is_shown, coordinates}
+use Rattle.cert_model.specs.Due.{is_version, Standing, Value, at_point, left_open, is_shown, coordinates}
 use Rattle.cert_model.specs.Accepted.{lines_course, loosenings_fit, certificate_text, most_lemmas}
 use Rattle.cert_model.specs.Derived.{states_of, AreNear, AreSingle}
 use Rattle.cert_model.specs.Laws.{CanBeWritten}
@@ -49,8 +49,8 @@ SessionMeans = (ps : List (Problem × Bool)) → IsSession ps → (bound : Optio
 
 -- the version is that of so many checks
 abbrev pub IsVersionFor : ℕ → ℕ → Type 0
-IsVersionFor (suc zero) v = (1 ≤ v) × (v ≤ 2)
-IsVersionFor n v = v ≡ 3
+IsVersionFor (suc zero) v = IsTrue (is_version v)
+IsVersionFor n v = IsTrue (is_session_version v)
 
 -- The version, margin and delta of accepted bytes are in their limits.
 abbrev pub SessionHeaderFits : Type 0
@@ -171,6 +171,6 @@ abbrev pub LawfulInVersion3 : Type 0
 LawfulInVersion3 = (s : Loosenings) → s.version ≡ 2 → (p : Problem) (may_keep : List State) (x : WrittenPart) → IsLawfulPart s p may_keep x →
     IsLawfulPart (in_version_3 s) p may_keep x × (value_of_part (in_version_3 s) p x ≡ value_of_part s p x) × (standing_of_part (in_version_3 s) p x ≡ standing_of_part s p x)
 
--- Honesty does not ask for the version.
+-- Honesty is the same in both.
 abbrev pub HonestInVersion3 : Type 0
-HonestInVersion3 = (s : Loosenings) (p : Problem) (w : ℕ) (S : State) (l : Line) → is_honest p w (in_version_3 s) S l ≡ is_honest p w s S l
+HonestInVersion3 = (s : Loosenings) → s.version ≡ 2 → (p : Problem) (w : ℕ) (S : State) (l : Line) → is_honest p w (in_version_3 s) S l ≡ is_honest p w s S l

@@ -1,15 +1,10 @@
 -- One line more is gone through.
-use Rattle.std.proofs.Common.{◌≡◌, ℕ, zero, suc, ◌+◌, ◌<◌, ◌≤◌, List, [], ◌∷◌, ◌++◌, map, take, drop, get_or, length, append_assoc, Bool, true, false, cond, All, IsTrue, true≢false, refl, ap, sym, ◌∙◌, subst, arith}
-use Rattle.std.specs.Prelude.{sum_by, Vec}
+use Rattle.std.proofs.Common.{◌≡◌, ℕ, suc, ◌+◌, ◌≤◌, List, [], ◌∷◌, ◌++◌, length, append_assoc, Bool, true, false, cond, true≢false, refl, ap, sym, ◌∙◌, subst, arith}
+use Rattle.std.specs.Prelude.{Vec}
 use Rattle.std.specs.Global.{Global}
-use Rattle.std.specs.List.{AllByRecursion}
-use Rattle.std.proofs.Math.Seq.{drop-cons}
-use Rattle.std.proofs.lemmas.List.{append-nil, map_more, map-append, take_all, take-append-drop, length-take}
-use Rattle.std.proofs.lemmas.List.Elements.{All-get_or, All-from_recursion, recursion_from_All}
+use Rattle.std.proofs.lemmas.List.{append-nil}
 use Rattle.poly_graph.specs.Problem.{Problem}
 use Rattle.poly_graph.specs.ProblemViews.{Parts, problem_of}
-use Rattle.cover_line.specs.declared.rule.Rule.{Rule}
-use Rattle.cover_line.specs.Views as rules
 use Rattle.cover_model.specs.State.{State, Loosenings}
 use Rattle.cover_model.specs.Rules.{Line}
 use Rattle.cover_model.specs.Derivation.{Tree, leaf, tree_lines}
@@ -27,9 +22,8 @@ use Rattle.cert_text.proofs.Spelling.{both_appended, nothing_appended, rules_app
 use Rattle.cert_resumed.specs.Resumed.{AreGrafts, AreShared, IsGraft, IsShared, Share, each_left, grafted, is_leaving, is_own, leaving_lines, others, own_left}
 use Rattle.cert_resumed.proofs.Grafts.{leaving_no_branch}
 use Rattle.cert_resume.specs.Answer.{TellsOfOwn}
-use Rattle.cert_resume.specs.Going.{CanBeResumed, HasGone, HasLearned, HasPassed, HasSearched, HasSkipped, IsBegun, MayGoOn, standings}
+use Rattle.cert_resume.specs.Going.{HasGone, HasLearned, HasPassed, HasSearched, HasSkipped, IsBegun, MayGoOn}
 use Rattle.cert_resume.specs.declared.answer.Own.{Own}
-use Rattle.cert_resume.specs.declared.answer.Own.TheVariants as own
 use Rattle.cert_resume.specs.declared.going.Going.{Going}
 use Rattle.cert_resume.proofs.Owns.{open_either}
 use Rattle.cert_resume.proofs.Rows.{grafts_more, each_more, shared_more, grafts_end, each_end, shared_end, each_count, trees_count, own_end, others_end, branches_end, grafted_other, grafted_leaving, lemma_trees_append, lemma_states_append, lemma_lines_append}

@@ -1,4 +1,5 @@
 pub mod Gone
+pub mod Later
 pub mod Matches
 pub mod Owns
 pub mod Rows

@@ -1,18 +1,15 @@
 -- What is left in a share.
-use Rattle.std.proofs.Common.{◌≡◌, ◌≢◌, ℕ, List, [], ◌∷◌, ◌++◌, Bool, true, false, cond, ◌||◌, is_some, Option, Some, None, IsTrue, refl, ap, sym, ◌∙◌, subst, true≢false}
+use Rattle.std.proofs.Common.{◌≡◌, ℕ, List, [], ◌∷◌, ◌++◌, Bool, true, false, cond, ◌||◌, is_some, None, refl, ap, sym, ◌∙◌, subst, true≢false}
 use Rattle.std.proofs.lemmas.List.{append-nil}
 use Rattle.cover_model.specs.State.{State}
-use Rattle.cover_model.specs.Derivation.{Tree}
 use Rattle.cert_model.specs.Due.{Standing}
 use Rattle.cert_model.specs.AnswerText.{is_open, has_open}
 use Rattle.cover_book.specs.Keeps.{IsBook}
-use Rattle.cover_book.specs.Laws.{IsTreeOfBook}
 use Rattle.cover_book.specs.Model.{BookModel}
 use Rattle.cover_book.specs.Verdict.{verdict_of, has_live, has_stuck, may_branch}
 use Rattle.cover_book.specs.declared.verdict.BookVerdict.{BookVerdict}
 use Rattle.cover_book.specs.declared.verdict.BookVerdict.TheVariants.{DeltaSat, UnknownBudget, NotYet, UnknownWidth, Unsat}
-use Rattle.cert_text.specs.Stuck.{stuck_at, IsFirstStuck}
-use Rattle.cert_text.specs.Laws.{MatchesNodes}
+use Rattle.cert_text.specs.Stuck.{IsFirstStuck}
 use Rattle.cert_text.proofs.Leftovers.{left_tells_of_nodes}
 use Rattle.cert_resume.specs.Answer.{TellsOfOwn}
 use Rattle.cert_resume.specs.Going.{IsOwnOf, JoinsOwn}

@@ -1,5 +1,5 @@
 -- Rows of trees for rows of states, with one more at their end, and over more lemmas.
-use Rattle.std.proofs.Common.{◌≡◌, ℕ, zero, suc, ◌+◌, List, [], ◌∷◌, ◌++◌, map, drop, length, append_assoc, Bool, true, false, cond, All, IsTrue, refl, ap, sym, ◌∙◌, subst, arith}
+use Rattle.std.proofs.Common.{◌≡◌, ℕ, suc, ◌+◌, List, [], ◌∷◌, ◌++◌, drop, length, append_assoc, Bool, true, false, cond, All, IsTrue, refl, ap, sym, ◌∙◌, subst, arith}
 use Rattle.std.specs.Prelude.{sum_by}
 use Rattle.std.proofs.lemmas.List.{append-nil, map-append}
 use Rattle.std.proofs.lemmas.List.Sums.{sum_by-append}
@@ -7,10 +7,10 @@ use Rattle.poly_graph.specs.Problem.{Problem}
 use Rattle.cover_model.specs.State.{State, Loosenings}
 use Rattle.cover_model.specs.Honest.{is_honest}
 use Rattle.cover_model.specs.Rules.{Line}
-use Rattle.cover_model.specs.Derivation.{Tree, leaf, tree_lines}
+use Rattle.cover_model.specs.Derivation.{Tree, tree_lines}
 use Rattle.cert_read.specs.CertLine.{CertLine}
 use Rattle.cert_model.specs.Due.{Standing}
-use Rattle.cert_model.specs.Written.{AreLemmaTrees, LemmaTree, lemma_lines, lemma_states, lemmas_lines, left_standing, IsHonestTree, tree_branches}
+use Rattle.cert_model.specs.Written.{AreLemmaTrees, LemmaTree, lemma_lines, lemma_states, lemmas_lines, left_standing, tree_branches}
 use Rattle.cert_resumed.specs.Resumed.{AreGrafts, AreShared, IsGraft, IsShared, Share, each_left, grafted, is_leaving, is_own, leaving_lines, lines_at, others, own_left}
 use Rattle.cert_resumed.proofs.Grows.{lawful_with_more}
 use Rattle.cert_resume.specs.Going.{standings}

@@ -1,16 +1,16 @@
 -- A state that was searched on by a book of its own.
-use Rattle.std.proofs.Common.{◌≡◌, ℕ, zero, suc, ◌+◌, ◌≤◌, List, [], ◌∷◌, ◌++◌, map, length, All, Bool, true, false, Option, Some, None, IsTrue, true≢false, refl, ap, sym, ◌∙◌, subst, arith}
+use Rattle.std.proofs.Common.{◌≡◌, inl, inr, ℕ, suc, ◌+◌, ◌≤◌, List, [], ◌∷◌, ◌++◌, length, All, true, Option, Some, None, true≢false, refl, ap, sym, ◌∙◌, subst, arith}
 use Rattle.std.specs.Prelude.{slice_get, Vec}
 use Rattle.std.specs.Global.{Global}
 use Rattle.std.specs.List.{list_any}
 use Rattle.std.specs.Option.{IfSome}
 use Rattle.poly_graph.specs.ProblemViews.{Parts, problem_of}
-use Rattle.cover_model.specs.State.{State, Loosenings}
-use Rattle.cover_model.specs.Derivation.{Tree, Lawful, tree_lines}
+use Rattle.cover_model.specs.State.{State}
+use Rattle.cover_model.specs.Derivation.{Tree, Lawful}
 use Rattle.cover_model.specs.Fits.{IsShownAt}
 use Rattle.cover_data.specs.declared.margins.Options.{Options}
 use Rattle.cover_data.specs.declared.stored.StoredState.{StoredState}
-use Rattle.cover_data.specs.Margins.{margins_of, loosenings_of}
+use Rattle.cover_data.specs.Margins.{margins_of, loosenings_of, options_in}
 use Rattle.interval_model.specs.Space.{Space}
 use Rattle.cert_model.specs.Accepted.{most_lemmas}
 use Rattle.cert_model.specs.AnswerText.{has_open}
@@ -19,18 +19,18 @@ use Rattle.cert_model.specs.Written.{AreLemmaTrees, IsHonestTree, LemmaTree, Nam
 use Rattle.cover_book.specs.Keeps.{IsBook, IsKeptLemma}
 use Rattle.cover_book.specs.Laws.{IsTreeOfBook}
 use Rattle.cover_book.specs.Left.{LeavesDue}
-use Rattle.cover_book.specs.Model.{BookModel, NodeModel, live_node, crossed_node, closed_node, parted_node, stuck_node, opening_at, lemma_states_in, problem_in, loosenings_in}
-use Rattle.cover_book.specs.Tree.{cover_lemmas, lemma_trees}
+use Rattle.cover_book.specs.Model.{BookModel, NodeModel, live_node, crossed_node, closed_node, parted_node, stuck_node, lemma_states_in, problem_in, loosenings_in}
+use Rattle.cover_book.specs.Tree.{lemma_trees}
 use Rattle.cover_book.specs.Verdict.{is_live}
 use Rattle.cover_book.proofs.Carries.{all_lemmas}
 use Rattle.cover_book.proofs.Kept.{same_states}
 use Rattle.cover_book.proofs.Meaning.{tree_is_honest}
 use Rattle.cert_text.specs.Lines.{HasAppended}
 use Rattle.cert_text.proofs.Leftovers.{left_tells_of_nodes}
-use Rattle.cert_resumed.specs.Resumed.{IsGraft}
 use Rattle.cert_resume.specs.Answer.{TellsOfOwn}
-use Rattle.cert_resume.specs.Calls.{IsOpened, IsPointOf, with_budget}
-use Rattle.cert_resume.specs.Going.{HasNoted, HasSearched, HasLearned, MayGoOn, MayOpen}
+use Rattle.cert_resume.specs.Calls.{IsFoundPoint, IsOpened, IsPointNoted, with_budget}
+use Rattle.cert_resume.specs.Going.{HasNoted, HasSearched, MayGoOn, options_now}
+use Rattle.cert_resume.specs.Request.{IsVersionOn}
 use Rattle.cert_resume.specs.Searched.{IsSearchedOn}
 use Rattle.cert_resume.specs.declared.going.Going.{Going}
 
@@ -98,19 +98,31 @@ record Stands (q : Parts) (o : Options) (S : State) (lemmas : List State) (t : T
   pub stands : left_standing (problem_of q) (loosenings_of (margins_of o)) lemmas S t ≡ left
   pub honest : IsHonestTree (problem_of q) o.least_bits (loosenings_of (margins_of o)) lemmas S t
 
-module _ (q : Parts) (o : Options) (S : State) (g g2 : Going) (L1 L3 : Vec StoredState Global) (b b' : BookModel) (m : MayGoOn q o g) (opened : IsOpened q o g.lemmas.items g.budget S b) (on : IsSearchedOn b b')
+-- the options and the version of a book that was searched on from one that opened in the version so far, where its version was taken over
+module _ (q : Parts) (o : Options) (S : State) (lemmas : List State) (n : ℕ) (g g2 : Going) (b b' : BookModel) (opened : IsOpened q (options_now o g) lemmas n S b) (on : IsSearchedOn b b')
+    (taken : g2.version ≡ b'.options.version) where
+  options-on : b'.options ≡ with_budget (options_now o g2) n
+  options-on = on.options ∙ ap (λ (x : BookModel). options_in b'.options.version x.options) opened ∙ ap (λ (v : ℕ). with_budget (options_in v o) n) (sym taken)
+
+  version-on : IsVersionOn g.version g2.version
+  version-on = elim on.version [ inl e ↦ inl (taken ∙ e ∙ ap (λ (x : BookModel). x.options.version) opened) | inr e ↦ inr (taken ∙ e) ]
+
+module _ (q : Parts) (o : Options) (S : State) (g g2 : Going) (L1 L3 : Vec StoredState Global) (b b' : BookModel) (m : MayGoOn q (options_now o g) g) (opened : IsOpened q (options_now o g) g.lemmas.items g.budget S b) (on : IsSearchedOn b b')
     (noted : HasNoted b' (record g { lemmas = L1 }) g2) (all : L3.items ≡ lemma_states_in b') where
   abbrev xs : List LemmaTree
   xs = lemma_trees b'
 
+  abbrev now : Options
+  now = options_now o g2
+
   abbrev own : Options
-  own = with_budget o g.budget
+  own = with_budget now g.budget
 
   same-problem : b'.problem ≡ q
   same-problem = on.problem ∙ ap (λ (x : BookModel). x.problem) opened
 
   same-options : b'.options ≡ own
-  same-options = on.options ∙ ap (λ (x : BookModel). x.options) opened
+  same-options = options-on q o S g.lemmas.items g.budget g g2 b b' opened on noted.version
 
   same-kept : b'.kept ≡ g.lemmas.items
   same-kept = on.kept ∙ ap (λ (x : BookModel). x.kept) opened
@@ -129,15 +141,16 @@ module _ (q : Parts) (o : Options) (S : State) (g g2 : Going) (L1 L3 : Vec Store
   all-states : L3.items ≡ g.lemmas.items ++ lemma_states xs
   all-states = all ∙ sym (same_states b') ∙ ap (λ (ks : List State). ks ++ lemma_states xs) same-kept
 
-  stands : Stands q o S L3.items noted.tree noted.left
-  stands = subst (λ (ls : List State). Stands q o S ls noted.tree noted.left) (sym all-states)
+  stands : Stands q now S L3.items noted.tree noted.left
+  stands = subst (λ (ls : List State). Stands q now S ls noted.tree noted.left) (sym all-states)
       (record { few = facts.few; may = facts.may; rest = facts.rest; lawful = facts.lawful; stands = facts.stands; honest = facts.honest })
 
   branches : g2.budget + tree_branches noted.tree ≡ g.budget
   branches = omega (arith, noted.budget, noted.is_tree.branches)
 
-  pub searched : HasSearched q o S g (record g2 { lemmas = L3 })
+  pub searched : HasSearched q now S g (record g2 { lemmas = L3 })
   searched = record {
+    version = version-on q o S g.lemmas.items g.budget g g2 b b' opened on noted.version;
     may = record { kept = stands.may; few = stands.few; budget = omega (arith, m.budget, branches) };
     lemmas = xs;
     learns = record {
@@ -169,8 +182,11 @@ if-some P None x e h = absurd (cc)
 if-some P (Some y) x e h = let same : y ≡ x = cc in subst P same h
 
 -- the point that a searched book keeps is shown
-pub shown : (q : Parts) (o : Options) (S : State) (lemmas : List State) (n : ℕ) (b b' : BookModel) → IsOpened q o lemmas n S b → IsSearchedOn b b' → IsBook b' → (x : Space) → b'.point ≡ Some x → IsPointOf q o x
-shown q o S lemmas n b b' opened on w x e =
-    let h : IsShownAt (problem_of b'.problem) (loosenings_of (margins_of b'.options)) x = (if-some _ b'.point x e w.point).0 in
-    subst (λ (r : Parts). IsShownAt (problem_of r) (loosenings_of (margins_of o)) x) (on.problem ∙ ap (λ (y : BookModel). y.problem) opened)
-    (subst (λ (u : Options). IsShownAt (problem_of b'.problem) (loosenings_of (margins_of u)) x) (on.options ∙ ap (λ (y : BookModel). y.options) opened) h)
+pub shown : (q : Parts) (o : Options) (S : State) (lemmas : List State) (n : ℕ) (g g2 : Going) (b b' : BookModel) → IsOpened q (options_now o g) lemmas n S b → IsSearchedOn b b' → IsBook b' →
+    (x : Space) → IsPointNoted b' g2 x → IsFoundPoint q o g.version g2 x
+shown q o S lemmas n g g2 b b' opened on w x e =
+    let h : IsShownAt (problem_of b'.problem) (loosenings_of (margins_of b'.options)) x = (if-some _ b'.point x e.0 w.point).0 in (
+      version-on q o S lemmas n g g2 b b' opened on e.1,
+      subst (λ (r : Parts). IsShownAt (problem_of r) (loosenings_of (margins_of (options_now o g2))) x) (on.problem ∙ ap (λ (y : BookModel). y.problem) opened)
+          (subst (λ (u : Options). IsShownAt (problem_of b'.problem) (loosenings_of (margins_of u)) x) (options-on q o S lemmas n g g2 b b' opened on e.1) h),
+    )

@@ -1,7 +1,7 @@
 -- The text of a cover that goes on.
-use Rattle.std.proofs.Common.{◌≡◌, ℕ, ◌+◌, ◌<◌, ◌≤◌, List, [], ◌∷◌, ◌++◌, map, take, get_or, length, append_assoc, refl, ap, sym, ◌∙◌, subst, arith}
-use Rattle.std.proofs.lemmas.List.{append-nil, map_more, take_all}
-use Rattle.cert_read.specs.CertLine.{CertLine, tree_word, end_word}
+use Rattle.std.proofs.Common.{◌≡◌, ℕ, ◌+◌, ◌<◌, ◌≤◌, List, [], ◌∷◌, ◌++◌, map, take, get_or, length, append_assoc, ap, sym, ◌∙◌}
+use Rattle.std.proofs.lemmas.List.{map_more, take_all}
+use Rattle.cert_read.specs.CertLine.{CertLine}
 use Rattle.cert_read.specs.Views.{line_of}
 use Rattle.cert_read.specs.declared.line.Line as code
 use Rattle.cert_model.specs.Accepted.{certificate_text}

@@ -1,36 +1,39 @@
 -- How far a cover is gone through.
-use Rattle.std.specs.Prelude.{◌≡◌, ℕ, suc, ◌+◌, ◌≤◌, List, [], ◌∷◌, ◌++◌, All, Bool, true, false, Option, None, IsTrue, length, map, sum_by}
+use Rattle.std.specs.Prelude.{◌≡◌, ℕ, suc, ◌+◌, ◌≤◌, List, [], ◌∷◌, ◌++◌, All, Bool, true, false, None, IsTrue, length, sum_by}
 use Rattle.std.specs.Prelude.{Vec}
 use Rattle.std.specs.Global.{Global}
 use Rattle.std.specs.List.{AllByRecursion}
-use Rattle.poly_graph.specs.Problem.{Problem, first_crossed}
+use Rattle.poly_graph.specs.Problem.{first_crossed}
 use Rattle.poly_graph.specs.ProblemViews.{Parts, problem_of}
-use Rattle.cover_line.specs.declared.rule.Rule.{Rule}
-use Rattle.cover_line.specs.Views as rules
-use Rattle.cover_model.specs.State.{State, Loosenings, root_state, covers}
+use Rattle.cover_model.specs.State.{State, root_state, covers}
 use Rattle.cover_model.specs.Fits.{FitsProblem}
 use Rattle.cover_model.specs.Rules.{Line}
 use Rattle.cover_model.specs.Derivation.{Tree, leaf, tree_lines}
 use Rattle.cover_data.specs.declared.margins.Options.{Options}
 use Rattle.cover_data.specs.declared.stored.StoredState.{StoredState}
-use Rattle.cover_data.specs.Margins.{margins_of, loosenings_of}
+use Rattle.cover_data.specs.Margins.{margins_of, loosenings_of, options_in}
 use Rattle.cover_book.specs.Keeps.{IsBook, IsKeptLemma}
 use Rattle.cover_book.specs.Laws.{IsTreeOfBook}
 use Rattle.cover_book.specs.Limits.{IsWithinLimits}
 use Rattle.cover_book.specs.Model.{BookModel}
 use Rattle.cover_book.specs.Tree.{lemma_trees}
-use Rattle.cert_read.specs.CertLine.{CertLine, rule_line}
+use Rattle.cert_read.specs.CertLine.{rule_line}
 use Rattle.cert_read.specs.LineText.{IsSpelled}
 use Rattle.cert_model.specs.Accepted.{certificate_text, most_lemmas}
 use Rattle.cert_model.specs.AnswerText.{has_open}
 use Rattle.cert_model.specs.Due.{Standing}
 use Rattle.cert_model.specs.Written.{AreLemmaTrees, IsHonestTree, LemmaTree, lemma_states, lemmas_lines, left_standing, rule_lines, tree_branches}
 use Rattle.cert_text.specs.Lines.{HasAppended}
-use Rattle.cert_resumed.specs.Resumed.{AreGrafts, AreShared, IsGraft, Share, each_left, grafted, is_own, leaving_lines, others, own_left}
+use Rattle.cert_resumed.specs.Resumed.{AreGrafts, AreShared, IsGraft, Share, each_left, grafted, leaving_lines, others, own_left}
 use Rattle.cert_resume.specs.Answer.{TellsOfOwn}
+use Rattle.cert_resume.specs.Request.{IsVersionOn}
 use Rattle.cert_resume.specs.declared.answer.Own.{Own}
 use Rattle.cert_resume.specs.declared.answer.Own.TheVariants as own
 use Rattle.cert_resume.specs.declared.going.Going.{Going}
+
+-- what is asked for, in the version of what was made so far
+abbrev pub options_now : Options → Going → Options
+options_now o g = options_in g.version o
 
 -- ---- what is left in the share
 
@@ -47,7 +50,7 @@ NotesOwn x b z = (t : Tree) (left : List Standing) → IsTreeOfBook b t left →
 
 -- ---- a book
 
--- a tree of a book that keeps no point, and the lemmas that it learned, were appended
+-- a tree of a book that keeps no point, and the lemmas that it learned, were appended, and its version was taken over
 pub record HasNoted (b : BookModel) (g g' : Going) : Type 0 where
   pub is_book : IsBook b
   pub no_point : b.point ≡ None
@@ -56,6 +59,7 @@ pub record HasNoted (b : BookModel) (g g' : Going) : Type 0 where
   pub is_tree : IsTreeOfBook b tree left
   pub main : HasAppended g.main.items (rule_lines (tree_lines tree)) g'.main.items
   pub learned : HasAppended g.learned.items (lemmas_lines (length b.kept) (lemma_trees b)) g'.learned.items
+  pub version : g'.version ≡ b.options.version
   pub budget : g'.budget + b.branches ≡ g.budget
   pub own : (xs : List Standing) → TellsOfOwn g.own xs → TellsOfOwn g'.own (xs ++ left)
   pub others : g'.others ≡ g.others
@@ -88,6 +92,7 @@ pub record HasLearned (q : Parts) (o : Options) (xs : List LemmaTree) (g g' : Go
 
 -- the state was searched: the lines of a tree that begins there were appended
 pub record HasSearched (q : Parts) (o : Options) (S : State) (g g' : Going) : Type 0 where
+  pub version : IsVersionOn g.version g'.version
   pub may : MayGoOn q o g'
   pub lemmas : List LemmaTree
   pub learns : HasLearned q o lemmas g g'
@@ -105,6 +110,7 @@ pub record HasSkipped (l : Line) (g g' : Going) : Type 0 where
   pub main : g'.main.items ≡ g.main.items ++ certificate_text (rule_line l ∷ [])
   pub learned : g'.learned ≡ g.learned
   pub lemmas : g'.lemmas ≡ g.lemmas
+  pub version : g'.version ≡ g.version
   pub budget : g'.budget ≡ g.budget
   pub own : g'.own ≡ g.own
   pub others : g'.others ≡ suc g.others
@@ -121,14 +127,14 @@ abbrev pub standings : List Line → List State → List Standing
 standings (l ∷ ls) (S ∷ Ss) = record { state = S; does = l } ∷ standings ls Ss
 standings _ _ = []
 
--- what is known of the lines and the states that are gone through, where `start` are the lemmas at first
+-- what is known of the lines and the states that are gone through, where `start` are the lemmas at first; a state may stay in each later version
 pub record CanBeResumed (q : Parts) (o : Options) (start : List State) (lines : List Line) (left : List State) : Type 0 where
   pub searchable : IsSearchable q o
   pub spelled : AllByRecursion IsSpelled (rule_lines lines)
   pub leaves : length (leaving_lines lines) ≡ length left
   pub fits : All (IsWithinRoot q) left
-  pub stays : (xs : List LemmaTree) → All (λ (x : Standing). IsGraft (problem_of q) (loosenings_of (margins_of o)) (start ++ lemma_states xs) x (leaf x.does)
-      × (left_standing (problem_of q) (loosenings_of (margins_of o)) (start ++ lemma_states xs) x.state (leaf x.does) ≡ x ∷ [])) (standings (leaving_lines lines) left)
+  pub stays : (v : ℕ) → o.version ≤ v → (xs : List LemmaTree) → All (λ (x : Standing). IsGraft (problem_of q) (loosenings_of (margins_of (options_in v o))) (start ++ lemma_states xs) x (leaf x.does)
+      × (left_standing (problem_of q) (loosenings_of (margins_of (options_in v o))) (start ++ lemma_states xs) x.state (leaf x.does) ≡ x ∷ [])) (standings (leaving_lines lines) left)
 
 -- these lines, which leave these states, were gone through
 pub record HasGone (q : Parts) (o : Options) (h : Share) (start : List State) (lines : List Line) (left : List Standing) (g : Going) : Type 0 where
@@ -146,11 +152,12 @@ pub record HasGone (q : Parts) (o : Options) (h : Share) (start : List State) (l
   pub spent : IsTrue (has_open (own_left h 0 (each_left (problem_of q) (loosenings_of (margins_of o)) g.lemmas.items left trees))) → g.budget ≡ 0
   pub others : g.others ≡ others h 0 (each_left (problem_of q) (loosenings_of (margins_of o)) g.lemmas.items left trees)
 
--- with these lemmas, and so many branches to make, nothing is gone through yet
-pub record IsBegunWith (start : Vec StoredState Global) (n : ℕ) (g : Going) : Type 0 where
+-- with these lemmas, and so many branches to make, nothing is gone through yet, in this version
+pub record IsBegunWith (start : Vec StoredState Global) (n v : ℕ) (g : Going) : Type 0 where
   pub main : g.main.items ≡ []
   pub learned : g.learned.items ≡ []
   pub lemmas : g.lemmas ≡ start
+  pub version : g.version ≡ v
   pub budget : g.budget ≡ n
   pub own : g.own ≡ own.Nothing
   pub others : g.others ≡ 0
@@ -158,4 +165,4 @@ pub record IsBegunWith (start : Vec StoredState Global) (n : ℕ) (g : Going) : 
 -- nothing is gone through yet, and all branches are to be made
 pub record IsBegun (q : Parts) (o : Options) (g : Going) : Type 0 where
   pub may : MayGoOn q o g
-  pub begun : IsBegunWith g.lemmas o.budget g
+  pub begun : IsBegunWith g.lemmas o.budget o.version g

@@ -1,8 +1,9 @@
 // How far a cover is gone through.
-ghost use Rattle.std.specs.Prelude.{◌≡◌, ◌≤◌, IfOk, MatchOption, None, OnOk, Some};
+ghost use Rattle.std.specs.Prelude.{◌≡◌, ◌≤◌, IfOk, MatchOption, None, OnOk};
 ghost use Rattle.poly_graph.specs.Problem.{first_crossed};
 ghost use Rattle.cover_book.specs.Keeps.{IsBook};
 ghost use Rattle.cover_book.specs.Model.{problem_in};
+ghost use Rattle.cert_resume.specs.Calls.{IsPointNoted};
 ghost use Rattle.cert_resume.specs.Going.{HasNoted, IsBegunWith, IsOwnOf, JoinsOwn, NotesOwn};
 
 use crate::answer::Own;
@@ -21,6 +22,8 @@ pub struct Going {
     pub learned: Vec<u8>,
     /// The states of all lemmas.
     pub lemmas: Vec<StoredState>,
+    /// The version of the format in which all of it is.
+    pub version: u32,
     /// How many branches are left.
     pub budget: u32,
     /// What is left in the share.
@@ -71,16 +74,18 @@ fn note_own(own: &mut Own, alloc: Global, book: &Book) -> Result<(), AllocError>
     Ok(())
 }
 
-/// Appends the tree of a book that was searched, and the lemmas that it learned, or answers the point that it keeps.
+/// Appends the tree of a book that was searched, and the lemmas that it learned, or answers the point that it keeps. What
+/// was made so far goes over to the version of the book.
 pub fn note_book(going: &mut Going, book: &Book) -> Result<Option<Point>, AllocError>
     requires budget { book.now.branches ≤ going.old.budget }
     requires not_crossed { first_crossed (problem_in book.now) ≡ None }
     ensures { IfOk result (λ x. MatchOption x
         (HasNoted book.now going.old going.new)
-        (λ point. book.now.point ≡ Some point)) }
+        (IsPointNoted book.now going.new)) }
 {
     let alloc = *going.main.allocator();
     let branches = book.branches();
+    going.version = book.options().version;
     if let Some(point) = book.point() {
         return Ok(Some(point.try_clone(alloc)?));
     }
@@ -91,14 +96,15 @@ pub fn note_book(going: &mut Going, book: &Book) -> Result<Option<Point>, AllocE
     Ok(None)
 }
 
-/// Nothing is gone through yet.
-pub fn begun(alloc: Global, lemmas: Vec<StoredState>, budget: u32) -> Going
-    ensures { IsBegunWith lemmas budget result }
+/// Nothing is gone through yet, in this version of the format.
+pub fn begun(alloc: Global, lemmas: Vec<StoredState>, budget: u32, version: u32) -> Going
+    ensures { IsBegunWith lemmas budget version result }
 {
     Going {
         main: Vec::new(alloc),
         learned: Vec::new(alloc),
         lemmas,
+        version,
         budget,
         own: Own::Nothing,
         others: 0,

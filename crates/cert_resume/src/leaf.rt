@@ -1,5 +1,6 @@
 // The book of a state that was left open or stuck.
 ghost use Rattle.std.specs.Prelude.{IfOk};
+ghost use Rattle.cover_data.specs.Margins.{options_in};
 ghost use Rattle.cert_resume.specs.Calls.{IsOpened};
 ghost use Rattle.cert_resume.specs.Going.{IsSearchable, IsWithinRoot, MayOpen};
 
@@ -18,21 +19,26 @@ pub struct Task<'a> {
     pub share: Share,
 }
 
-/// The book that opens in the state, with the lemmas, which are taken, and with so many branches to make.
+/// The book that opens in the state in this version of the format, with the lemmas, which are taken, and with so many
+/// branches to make.
 pub fn opened(
     lemmas: &mut Vec<StoredState>,
     budget: u32,
+    version: u32,
     task: &Task<'_>,
     state: &State,
 ) -> Result<Book, AllocError>
-    requires searchable { IsSearchable task.now.problem.now task.now.options }
-    requires may { MayOpen task.now.problem.now task.now.options lemmas.old.items budget }
+    requires searchable { IsSearchable task.now.problem.now (options_in version task.now.options) }
+    requires may { MayOpen task.now.problem.now (options_in version task.now.options)
+        lemmas.old.items budget }
     requires state { IsWithinRoot task.now.problem.now state.now }
-    ensures { IfOk result (IsOpened task.now.problem.now task.now.options lemmas.old.items budget state.now) }
+    ensures { IfOk result (IsOpened task.now.problem.now (options_in version task.now.options)
+        lemmas.old.items budget state.now) }
 {
     let alloc = *lemmas.allocator();
     let kept = mem::replace(lemmas, Vec::new(alloc));
     let options = Options {
+        version,
         budget,
         ..task.options
     };

@@ -1,6 +1,6 @@
 // What is asked for.
 ghost use Rattle.std.specs.Prelude.{◌≡◌};
-ghost use Rattle.cert_resume.specs.Request.{IsShare, options_with, share_of};
+ghost use Rattle.cert_resume.specs.Request.{IsShare, first_version, options_with, share_of};
 ghost use Rattle.cert_resumed.specs.Resumed.{is_own};
 
 use cert_base::Base;
@@ -36,6 +36,13 @@ impl Share {
     }
 }
 
+// The version of the format in which a search begins that goes on from one of this version.
+fn first_version(version: u32) -> u32
+    ensures { result ≡ first_version version }
+{
+    if version <= 2 { 2 } else { 5 }
+}
+
 /// What a book is searched for that goes on from the base, with so many branches left.
 pub fn options_with(base: &Base, request: Request, budget: u32) -> Options
     ensures { result ≡ options_with base.now request budget }
@@ -44,6 +51,7 @@ pub fn options_with(base: &Base, request: Request, budget: u32) -> Options
         delta_bits: base.delta,
         margin_bits: base.margin,
         least_bits: request.least_bits,
+        version: first_version(base.version),
         budget,
         workers: request.workers,
         bound: base.bound,

@@ -10,15 +10,12 @@ use cert_text::append_line;
 use cover_data::Options;
 use std::alloc::{AllocError, Global};
 
-// The version of the format.
-const VERSION: u32 = 2;
-
 // The lines before the lemmas, of which there are so many.
 fn append_header(text: &mut Vec<u8>, options: &Options, count: u32) -> Result<(), AllocError>
     ensures { OnOk result (text.new.items
         ≡ text.old.items ++ certificate_text (header_lines options.now count)) }
 {
-    append_line(text, &Line::Version(VERSION))?;
+    append_line(text, &Line::Version(options.version))?;
     append_line(text, &Line::Margin(options.margin_bits))?;
     append_line(text, &Line::Delta(options.delta_bits))?;
     append_line(text, &Line::Bound(options.bound))?;
@@ -49,7 +46,8 @@ pub fn written(
     ensures fits { IfOk result (λ text. length text.items ≤ most_bytes) }
 {
     let mut text = Vec::new(alloc);
-    append_header(&mut text, options, going.lemmas.len() as u32)?;
+    let options = options.in_version(going.version);
+    append_header(&mut text, &options, going.lemmas.len() as u32)?;
     append_lines(&mut text, lemma_lines)?;
     text.extend_from_slice(&going.learned)?;
     append_line(&mut text, &Line::Tree)?;

@@ -1,18 +1,18 @@
 -- A lawful tree whose leaving lines are replaced by lawful trees is lawful.
-use Rattle.std.proofs.Common.{◌≡◌, ℕ, ◌+◌, List, [], ◌∷◌, ◌++◌, Bool, true, false, not, ◌&&◌, cond, Option, Some, None, IsTrue, All, sum_by, refl, ap, ap₂, sym, ◌∙◌, subst, append_assoc, append-nil, drop, arith}
+use Rattle.std.proofs.Common.{◌≡◌, ◌≤◌, ℕ, ◌+◌, List, [], ◌∷◌, ◌++◌, Bool, true, false, not, cond, Option, Some, None, IsTrue, All, sum_by, refl, ap, ap₂, sym, ◌∙◌, subst, append_assoc, append-nil, drop, arith}
 use Rattle.std.specs.List.{AllByRecursion}
 use Rattle.std.proofs.lemmas.List.Elements.{All-nil, All-cons, All-head, All-tail, All-append}
 use Rattle.std.proofs.lemmas.List.Sums.{sum_by-cons, sum_by-append}
 use Rattle.poly_graph.specs.Problem.{Problem}
 use Rattle.interval_model.specs.Space.{Space}
-use Rattle.cover_model.specs.State.{State, Loosenings, may}
+use Rattle.cover_model.specs.State.{State, Loosenings, in_version, may}
 use Rattle.cover_model.specs.Rules.{Line, narrow_by, end_by, mark_by, branch_by, stay_by, Ending, void_by, false_form, by_lemma, Left, closed, one, two, stays, rule, ending, when, pulled, voided, can_narrow, narrowed_to, can_mark, marked, can_branch, first_child, second_child, can_stay, lemma_covers}
 use Rattle.cover_model.specs.Honest.{is_honest, branch_count}
 use Rattle.cover_model.specs.Derivation.{Tree, leaf, then, fork, tree_lines, Lawful, at_closed, at_left, at_step, at_fork}
+use Rattle.cover_model.proofs.Later.{honest_later}
 use Rattle.cert_model.specs.Due.{Standing, names_well}
 use Rattle.cert_model.specs.Written.{NamesWell, leaf_standing, step_standing, fork_standing, left_standing, tree_standing, IsHonestTree, tree_branches}
-use Rattle.cert_model.proofs.Versions.{honest_in_version_3}
-use Rattle.cert_resumed.specs.Resumed.{is_leaving, lines_at, grafted, in_version_2, AreGrafts, each_left, joined}
+use Rattle.cert_resumed.specs.Resumed.{is_leaving, lines_at, grafted, AreGrafts, each_left, joined}
 use Rattle.cert_resumed.specs.Laws.{AreHonestGrafts}
 use Rattle.cert_resumed.proofs.Parses.{all_append}
 
@@ -103,10 +103,6 @@ module _ (p : Problem) (s : Loosenings) (lemmas : List State) where
 
 -- ---- trees
 
--- honesty does not ask for the version
-honest-same : (s : Loosenings) (p : Problem) (w : ℕ) (S : State) (l : Line) → is_honest p w (in_version_2 s) S l ≡ is_honest p w s S l
-honest-same s p w S l = sym (honest_in_version_3 (in_version_2 s) p w S l) ∙ honest_in_version_3 s p w S l
-
 -- no line that leaves its state is a branch
 pub leaving_no_branch : (l : Line) → is_leaving l ≡ true → branch_count l ≡ 0
 leaving_no_branch (stay_by t) h = refl
@@ -115,10 +111,10 @@ leaving_no_branch (narrow_by n) h = refl
 leaving_no_branch (end_by e) h = refl
 leaving_no_branch (mark_by m) h = refl
 
--- what a rule leaves over the old lemmas it leaves over the new ones under version 2
-module _ (p : Problem) (s : Loosenings) (old new : List State) (keeps : (S : State) (l : Line) (x : Left) → rule p s old S l ≡ Some x → rule p (in_version_2 s) new S l ≡ Some x) where
+-- what a rule leaves over the old lemmas it leaves over the new ones under version v
+module _ (p : Problem) (s : Loosenings) (v : ℕ) (newer : s.version ≤ v) (old new : List State) (keeps : (S : State) (l : Line) (x : Left) → rule p s old S l ≡ Some x → rule p (in_version v s) new S l ≡ Some x) where
   abbrev second : Loosenings
-  second = in_version_2 s
+  second = in_version v s
 
   -- a lawful tree in place of this one, whose states xs go on by these trees
   pub record Grafted (S : State) (t : Tree) (xs : List Standing) (ts : List Tree) : Type 0 where
@@ -136,7 +132,7 @@ module _ (p : Problem) (s : Loosenings) (old new : List State) (keeps : (S : Sta
 
   honest-first : (w : ℕ) (S : State) (l : Line) (xs ys : List Standing) → All (Honest w s) (record { state = S; does = l } ∷ xs) → All (Honest w second) ys → All (Honest w second) (record { state = S; does = l } ∷ ys)
   honest-first w S l xs ys h k = All-cons (Honest w second) (record { state = S; does = l }) ys
-      (subst (λ (t : Bool). IsTrue t) (sym (honest-same s p w S l)) (All-head (Honest w s) (record { state = S; does = l }) xs h)) k
+      (honest_later p s v newer w S l (All-head (Honest w s) (record { state = S; does = l }) xs h)) k
 
   -- what stands of a tree, and the trees for that
   abbrev Grows : State → Tree → List Standing → Type 0

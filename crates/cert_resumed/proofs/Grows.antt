@@ -1,13 +1,11 @@
--- More lemmas, and version 2, change nothing of what a rule leaves.
+-- More lemmas change nothing of what a rule leaves.
 use Rattle.std.proofs.Common.{◌≡◌, ℕ, zero, suc, List, [], ◌∷◌, ◌++◌, Bool, true, false, ◌&&◌, cond, Option, Some, None, IsTrue, true≢false, refl, ap, ap₂, sym, ◌∙◌, subst}
 use Rattle.poly_graph.specs.Problem.{Problem}
 use Rattle.cover_model.specs.State.{State, Loosenings, undecided, with_yes}
-use Rattle.cover_model.specs.Rules.{Line, narrow_by, end_by, mark_by, branch_by, stay_by, void_by, false_form, by_lemma, Marking, unit_atom, ban_atom, open_state, stuck_atom, unit, ban, make_false, by, open_line, stuck, Left, closed, one, two, stays, rule, when, pulled, voided, can_narrow, narrowed_to, can_mark, marked, lemma_covers}
+use Rattle.cover_model.specs.Rules.{Line, narrow_by, end_by, mark_by, branch_by, stay_by, void_by, false_form, by_lemma, Marking, unit_atom, ban_atom, make_false, Left, closed, one, two, stays, rule, when, can_mark, marked, lemma_covers}
 use Rattle.cover_model.specs.Derivation.{Tree, Lawful, at_closed, at_left, at_step, at_fork}
 use Rattle.cert_model.specs.Due.{Standing}
-use Rattle.cert_model.proofs.Narrowings.{can_narrow_in, narrowed_in}
 use Rattle.cert_model.specs.Written.{leaf_standing, step_standing, fork_standing, left_standing, tree_standing}
-use Rattle.cert_resumed.specs.Resumed.{in_version_2}
 
 -- where the one leaves something, the other leaves the same
 abbrev SameIfSome : Option Left → Option Left → Type 0
@@ -41,19 +39,6 @@ both-more true t u h k = h k
 both-more false t u h k = absurd (true≢false (sym k))
 
 module _ (p : Problem) (s : Loosenings) where
-  version-same : (lemmas : List State) (S : State) (l : Line) → SameIfSome (rule p s lemmas S l) (rule p (in_version_2 s) lemmas S l)
-  version-same lemmas S (narrow_by n) = cond-more (can_narrow p s S n) (can_narrow p (in_version_2 s) S n) (pulled S (narrowed_to p s S n)) (pulled S (narrowed_to p (in_version_2 s) S n))
-      (can_narrow_in p s 2 S n (λ h. refl)) (ap (pulled S) (narrowed_in p s 2 S n))
-  version-same lemmas S (end_by (void_by n)) = cond-more (can_narrow p s S n) (can_narrow p (in_version_2 s) S n) (voided (narrowed_to p s S n)) (voided (narrowed_to p (in_version_2 s) S n))
-      (can_narrow_in p s 2 S n (λ h. refl)) (ap voided (narrowed_in p s 2 S n))
-  version-same lemmas S (end_by false_form) = same-left (rule p s lemmas S make_false)
-  version-same lemmas S (end_by (by_lemma i)) = same-left (rule p s lemmas S (by i))
-  version-same lemmas S (mark_by (unit_atom j)) = same-left (rule p s lemmas S (unit j))
-  version-same lemmas S (mark_by (ban_atom j i)) = same-left (rule p s lemmas S (ban j i))
-  version-same lemmas S (branch_by b) = same-left (rule p s lemmas S (branch_by b))
-  version-same lemmas S (stay_by open_state) = same-left (rule p s lemmas S open_line)
-  version-same lemmas S (stay_by (stuck_atom j)) = same-left (rule p s lemmas S (stuck j))
-
   marks-more : (lemmas more : List State) (S : State) (m : Marking) → IsTrue (can_mark p s lemmas S m) → IsTrue (can_mark p s (lemmas ++ more) S m)
   marks-more lemmas more S (unit_atom j) h = h
   marks-more lemmas more S (ban_atom j i) h =
@@ -68,12 +53,9 @@ module _ (p : Problem) (s : Loosenings) where
   lemmas-same lemmas more S (branch_by b) = same-left (rule p s lemmas S (branch_by b))
   lemmas-same lemmas more S (stay_by t) = same-left (rule p s lemmas S (stay_by t))
 
-  -- what a rule leaves it leaves with more lemmas, and so under version 2
+  -- what a rule leaves it leaves with more lemmas
   pub rule_with_more : (lemmas more : List State) (S : State) (l : Line) (x : Left) → rule p s lemmas S l ≡ Some x → rule p s (lemmas ++ more) S l ≡ Some x
   rule_with_more lemmas more S l x e = along (rule p s lemmas S l) (rule p s (lemmas ++ more) S l) (lemmas-same lemmas more S l) x e
-
-  pub rule_in_version_2 : (lemmas : List State) (S : State) (l : Line) (x : Left) → rule p s lemmas S l ≡ Some x → rule p (in_version_2 s) lemmas S l ≡ Some x
-  rule_in_version_2 lemmas S l x e = along (rule p s lemmas S l) (rule p (in_version_2 s) lemmas S l) (version-same lemmas S l) x e
 
   -- ---- a lawful tree
 

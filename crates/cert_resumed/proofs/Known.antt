@@ -1,11 +1,11 @@
--- A cover that was read: its header, its lemmas under version 2, its main tree.
+-- A cover that was read: its header, its lemmas under later versions, its main tree.
 use Rattle.std.proofs.Common.{◌≡◌, ℕ, suc, ◌+◌, ◌≤◌, List, [], ◌∷◌, ◌++◌, map, Bool, Option, IsTrue, refl, ap, sym, ◌∙◌, subst, length, nat_eq, nat_le, append-nil, arith}
 use Rattle.std.specs.Bool.{passes}
 use Rattle.std.proofs.Math.Facts.{leb_yes}
 use Rattle.std.proofs.lemmas.Bool.{le-leb}
 use Rattle.dyadic.proofs.Equal.{both_true, both_pass}
 use Rattle.poly_graph.specs.Problem.{Problem}
-use Rattle.cover_model.specs.State.{State, Loosenings, root_state}
+use Rattle.cover_model.specs.State.{State, Loosenings, in_version, root_state}
 use Rattle.cover_model.specs.Rules.{Line}
 use Rattle.cover_model.specs.Derivation.{Tree, tree_lines}
 use Rattle.cert_read.specs.Lines.{lines_of}
@@ -16,7 +16,7 @@ use Rattle.cert_model.specs.Standing.{Stands, stands_at, standing_next, standing
 use Rattle.cert_model.specs.Written.{rule_lines, left_standing, tree_standing}
 use Rattle.cert_model.specs.SessionLaws.{written_tree, IsLawfulEnd}
 use Rattle.cert_model.proofs.Writes.{same_bounds, same_number, Finishes, cover_finishes}
-use Rattle.cert_resumed.specs.Resumed.{CoverRead, IsCoverRead, read_lines, in_version_2}
+use Rattle.cert_resumed.specs.Resumed.{CoverRead, IsCoverRead, read_lines}
 use Rattle.cert_resumed.proofs.Parses.{MainTree, main_tree}
 use Rattle.cert_resumed.proofs.Sections.{given_goes, Leads, through, one_line, Ends, lemmas_end}
 
@@ -99,12 +99,12 @@ module _ (p : Problem) (b : Option ℕ) where
 
   -- ---- the whole
 
-  -- what is known of a cover that was read: its header, that its lemmas' lines lead under version 2 to its lemmas, also where
+  -- what is known of a cover that was read: its header, that its lemmas' lines lead under a later version to its lemmas, also where
   -- more are announced, its main tree, and where the lines of that stand
   pub record Known (bytes : List ℕ) (c : CoverRead) : Type 0 where
     pub loosenings : IsTrue (is_header c.loosenings)
     pub few : length c.lemmas ≤ most_lemmas
-    pub again : (j : ℕ) → length c.lemmas ≤ j → (more : List CertLine) → Leads p b (next_due (in_version_2 c.loosenings) j []) (c.lemma_lines ++ more) (next_due (in_version_2 c.loosenings) j c.lemmas) more
+    pub again : (v : ℕ) → c.loosenings.version ≤ v → (j : ℕ) → length c.lemmas ≤ j → (more : List CertLine) → Leads p b (next_due (in_version v c.loosenings) j []) (c.lemma_lines ++ more) (next_due (in_version v c.loosenings) j c.lemmas) more
     pub main : MainTree p c.loosenings c.lemmas c.main c.left
     pub stands : standing p b bytes ≡ map (stood c.loosenings) (tree_standing p c.loosenings c.lemmas (root_state p) main.tree)
 
@@ -130,20 +130,23 @@ module _ (p : Problem) (b : Option ℕ) where
     behind-header : Leads p b version_due (header_of own (length c.lemmas) inside) (next_due own (length c.lemmas) []) inside
     behind-header = header_leads own (length c.lemmas) inside right.loosenings right.few
 
-    ends : (j : ℕ) (g : length c.lemmas ≤ j) → Ends p b own (length c.lemmas) j g (next_due own (length c.lemmas) []) (next_due (in_version_2 own) j []) c.lemma_lines rest
-    ends j g = let f = behind-header.to 0 in lemmas_end p b own (length c.lemmas) j g c.lemma_lines rest f.0 (length (lines_of bytes)) last (sym f.1 ∙ whole)
+    ends : (v : ℕ) (n : own.version ≤ v) (j : ℕ) (g : length c.lemmas ≤ j) → Ends p b own v n (length c.lemmas) j g (next_due own (length c.lemmas) []) (next_due (in_version v own) j []) c.lemma_lines rest
+    ends v n j g = let f = behind-header.to 0 in lemmas_end p b own v n (length c.lemmas) j g c.lemma_lines rest f.0 (length (lines_of bytes)) last (sym f.1 ∙ whole)
 
-    at-root : (j : ℕ) (g : length c.lemmas ≤ j) → Leads p b version_due (header_of own (length c.lemmas) inside) (root_due own (ends j g).lemmas) rest
-    at-root j g = through p b behind-header (through p b (ends j g).old (tree-leads own (ends j g).lemmas (length c.lemmas) rest (ends j g).count))
+    at-root : (v : ℕ) (n : own.version ≤ v) (j : ℕ) (g : length c.lemmas ≤ j) → Leads p b version_due (header_of own (length c.lemmas) inside) (root_due own (ends v n j g).lemmas) rest
+    at-root v n j g = through p b behind-header (through p b (ends v n j g).old (tree-leads own (ends v n j g).lemmas (length c.lemmas) rest (ends v n j g).count))
 
-    main : (j : ℕ) (g : length c.lemmas ≤ j) → ((ends j g).lemmas ≡ c.lemmas) × MainTree p own (ends j g).lemmas c.main c.left
-    main j g = let f = (at-root j g).to 0 in main_tree p b own (ends j g).lemmas own c.lemmas c.left c.main f.0 (length (lines_of bytes), sym f.1 ∙ whole)
+    main : (v : ℕ) (n : own.version ≤ v) (j : ℕ) (g : length c.lemmas ≤ j) → ((ends v n j g).lemmas ≡ c.lemmas) × MainTree p own (ends v n j g).lemmas c.main c.left
+    main v n j g = let f = (at-root v n j g).to 0 in main_tree p b own (ends v n j g).lemmas own c.lemmas c.left c.main f.0 (length (lines_of bytes), sym f.1 ∙ whole)
 
     same-count : length c.lemmas ≤ length c.lemmas
     same-count = omega arith
 
+    same-version : own.version ≤ own.version
+    same-version = omega arith
+
     main-tree : MainTree p own c.lemmas c.main c.left
-    main-tree = let m = main (length c.lemmas) same-count in subst (λ (ks : List State). MainTree p own ks c.main c.left) m.0 m.1
+    main-tree = let m = main own.version same-version (length c.lemmas) same-count in subst (λ (ks : List State). MainTree p own ks c.main c.left) m.0 m.1
 
     main-finishes : Finishes p b own (next_due own (length c.lemmas) c.lemmas) (tree_word ∷ rest) c.lemmas
         (left_open (left_standing p own c.lemmas (root_state p) main-tree.tree)) (tree_standing p own c.lemmas (root_state p) main-tree.tree)
@@ -153,13 +156,13 @@ module _ (p : Problem) (b : Option ℕ) where
 
     to-tree : Leads p b version_due (header_of own (length c.lemmas) inside) (next_due own (length c.lemmas) c.lemmas) (tree_word ∷ rest)
     to-tree = subst (λ (ks : List State). Leads p b version_due (header_of own (length c.lemmas) inside) (next_due own (length c.lemmas) ks) (tree_word ∷ rest))
-        (main (length c.lemmas) same-count).0 (through p b behind-header (ends (length c.lemmas) same-count).old)
+        (main own.version same-version (length c.lemmas) same-count).0 (through p b behind-header (ends own.version same-version (length c.lemmas) same-count).old)
 
     pub known : Known bytes c
     known = record {
       loosenings = right.loosenings;
       few = right.few;
-      again = λ j g more. subst (λ (ks : List State). Leads p b (next_due (in_version_2 own) j []) (c.lemma_lines ++ more) (next_due (in_version_2 own) j ks) more) (main j g).0 ((ends j g).new more);
+      again = λ v n j g more. subst (λ (ks : List State). Leads p b (next_due (in_version v own) j []) (c.lemma_lines ++ more) (next_due (in_version v own) j ks) more) (main v n j g).0 ((ends v n j g).new more);
       main = main-tree;
       stands = standing_reads (lines_of bytes) (read_lines b c) h.lines version_due ∙ to-tree.quiet ∙ main-finishes.stand;
     }

@@ -62,7 +62,7 @@ open_root_is_read = record { accepted = refl; lines = refl; ends = refl }
 abbrev cut_tree : Tree
 cut_tree = fork (cut 0 (dyadic 0 0)) (leaf open_line) (leaf open_line)
 
-cut_text : resumed_text None open_root [] (cut_tree ∷ []) ≡ codes "dpoly 2\nmargin 20\ndelta 10\nbound none\ncover 0\ntree\ncut 0 0\nopen\nopen\nend\n"
+cut_text : resumed_text 2 None open_root [] (cut_tree ∷ []) ≡ codes "dpoly 2\nmargin 20\ndelta 10\nbound none\ncover 0\ntree\ncut 0 0\nopen\nopen\nend\n"
 unfolding Rattle.std.specs.Fmt.digits
 cut_text = refl
 
@@ -88,7 +88,7 @@ abbrev again : LemmaTree
 again = record { state = marked; tree = leaf (by 0) }
 
 abbrev two_lemmas : List ℕ
-two_lemmas = resumed_text None one_lemma (again ∷ []) (then (unit 4) (leaf (by 1)) ∷ [])
+two_lemmas = resumed_text 2 None one_lemma (again ∷ []) (then (unit 4) (leaf (by 1)) ∷ [])
 
 two_lemmas_text : two_lemmas ≡
     codes "dpoly 2\nmargin 20\ndelta 10\nbound none\ncover 2\nlemma 0\nreal 0 1b0\nyes 4\nno\npull 4\nfalse\nlemma 1\nreal 0 1b0\nyes 4\nno\nby 0\ntree\nunit 4\nby 1\nend\n"

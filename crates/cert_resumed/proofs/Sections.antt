@@ -1,10 +1,10 @@
--- The lines of an accepted cover's lemmas lead under version 2 to the same lemmas, also where more are announced.
+-- The lines of an accepted cover's lemmas lead under a later version to the same lemmas, also where more are announced.
 use Rattle.std.proofs.Common.{◌≡◌, inl, inr, ◌⊎◌, ℕ, suc, ◌≤◌, List, [], ◌∷◌, ◌++◌, Bool, true, false, cond, Option, Some, None, refl, ap, sym, ◌∙◌, subst, length, nat_eq, nat_lt, eqb→eq, arith}
 use Rattle.std.specs.Bool.{passes}
 use Rattle.std.proofs.Math.Facts.{leb_yes}
 use Rattle.std.proofs.lemmas.Bool.{le-leb}
 use Rattle.poly_graph.specs.Problem.{Declared, real_between, any_bool, Axis, Problem, crosses}
-use Rattle.cover_model.specs.State.{State, Loosenings, root_state}
+use Rattle.cover_model.specs.State.{State, Loosenings, in_version, root_state}
 use Rattle.interval_model.specs.Space.{Space}
 use Rattle.cover_model.specs.Rules.{Line, Left, closed, one, two, stays, rule}
 use Rattle.cover_line.specs.Words.{word_of}
@@ -12,8 +12,7 @@ use Rattle.cert_read.specs.CertLine.{CertLine, tree_word, end_word, lemma, real_
 use Rattle.cert_model.specs.Due.{CertFault, BadNumber, Missing, NotShown, RuleFails, Standing, left_open, Due, next_due, axis_due, yes_due, no_due, lemma_due, root_due, tree_due, end_due, nothing_due, Next, on, faulty, given, names_well, after_rule, after_lemma_rule, tree_goes_on, lemma_goes_on, axis_next, is_crossed_box, is_shown, state_of}
 use Rattle.cert_model.specs.Accepted.{next, ruled_line, tree_line, root_line, no_crossing, axis_line, Course, reached, course_next, course_of_lines}
 use Rattle.cert_model.specs.Standing.{Stands, stands_at, standing_next, standing_of_lines}
-use Rattle.cert_resumed.specs.Resumed.{in_version_2}
-use Rattle.cert_resumed.proofs.Grows.{rule_in_version_2}
+use Rattle.cover_model.proofs.Later.{rule_later}
 
 -- where a test's next is not faulty, the test holds
 pub given_goes : (t : Bool) (d : Due) (f : CertFault) (n : ℕ) (k : Due → Course) (e : Due) (m : ℕ) → course_next (given t d f) n k ≡ reached e m → (t ≡ true) × (k d ≡ reached e m)
@@ -118,25 +117,25 @@ if-some : (o u : Option Left) → ((x : Left) → o ≡ Some x → u ≡ Some x)
 if-some None u h = tt
 if-some (Some x) u h = h x refl
 
-module _ (p : Problem) (b : Option ℕ) (s : Loosenings) (k j : ℕ) (fewer : k ≤ j) where
-  -- the same is due in a lemma, where k lemmas were announced, and under version 2 where j were
+module _ (p : Problem) (b : Option ℕ) (s : Loosenings) (v : ℕ) (newer : s.version ≤ v) (k j : ℕ) (fewer : k ≤ j) where
+  -- the same is due in a lemma, where k lemmas were announced, and under version v where j were
   data Section : Due → Due → Type 0 where
-    at_next : (lemmas : List State) → Section (next_due s k lemmas) (next_due (in_version_2 s) j lemmas)
-    at_axis : (lemmas : List State) (a : Axis) (axes : List Axis) (space : Space) → Section (axis_due s k lemmas a axes space) (axis_due (in_version_2 s) j lemmas a axes space)
-    at_yes : (lemmas : List State) (space : Space) → Section (yes_due s k lemmas space) (yes_due (in_version_2 s) j lemmas space)
-    at_no : (lemmas : List State) (space : Space) (is : List ℕ) → Section (no_due s k lemmas space is) (no_due (in_version_2 s) j lemmas space is)
-    at_lemma : (lemmas : List State) (L S : State) (pending : List State) → Section (lemma_due s k lemmas L S pending) (lemma_due (in_version_2 s) j lemmas L S pending)
+    at_next : (lemmas : List State) → Section (next_due s k lemmas) (next_due (in_version v s) j lemmas)
+    at_axis : (lemmas : List State) (a : Axis) (axes : List Axis) (space : Space) → Section (axis_due s k lemmas a axes space) (axis_due (in_version v s) j lemmas a axes space)
+    at_yes : (lemmas : List State) (space : Space) → Section (yes_due s k lemmas space) (yes_due (in_version v s) j lemmas space)
+    at_no : (lemmas : List State) (space : Space) (is : List ℕ) → Section (no_due s k lemmas space is) (no_due (in_version v s) j lemmas space is)
+    at_lemma : (lemmas : List State) (L S : State) (pending : List State) → Section (lemma_due s k lemmas L S pending) (lemma_due (in_version v s) j lemmas L S pending)
 
   -- where the one goes on, so does the other, or the lemmas are complete
   abbrev Along : Next → Next → Type 0
   Along (faulty f) y = Unit {0}
   Along (on d) y = ((d' : Due) × (y ≡ on d') × Section d d') ⊎ IsPast d
 
-  axis-along : (lemmas : List State) (axes : List Axis) (space : Space) → Along (on (axis_next s k lemmas axes space)) (on (axis_next (in_version_2 s) j lemmas axes space))
-  axis-along lemmas [] space = inl (yes_due (in_version_2 s) j lemmas space, refl, at_yes lemmas space)
-  axis-along lemmas (a ∷ axes) space = inl (axis_due (in_version_2 s) j lemmas a axes space, refl, at_axis lemmas a axes space)
+  axis-along : (lemmas : List State) (axes : List Axis) (space : Space) → Along (on (axis_next s k lemmas axes space)) (on (axis_next (in_version v s) j lemmas axes space))
+  axis-along lemmas [] space = inl (yes_due (in_version v s) j lemmas space, refl, at_yes lemmas space)
+  axis-along lemmas (a ∷ axes) space = inl (axis_due (in_version v s) j lemmas a axes space, refl, at_axis lemmas a axes space)
 
-  axis-given : (t : Bool) (f : CertFault) (lemmas : List State) (axes : List Axis) (space : Space) → Along (given t (axis_next s k lemmas axes space) f) (given t (axis_next (in_version_2 s) j lemmas axes space) f)
+  axis-given : (t : Bool) (f : CertFault) (lemmas : List State) (axes : List Axis) (space : Space) → Along (given t (axis_next s k lemmas axes space) f) (given t (axis_next (in_version v s) j lemmas axes space) f)
   axis-given true f lemmas axes space = axis-along lemmas axes space
   axis-given false f lemmas axes space = tt
 
@@ -155,17 +154,17 @@ module _ (p : Problem) (b : Option ℕ) (s : Loosenings) (k j : ℕ) (fewer : k 
   less-too : (n : ℕ) → nat_lt n k ≡ true → nat_lt n j ≡ true
   less-too n h = let low : suc n ≤ k = leb_yes (passes (nat_lt n k) h) in le-leb (suc n) j (omega (arith, low, fewer))
 
-  axis-line : (lemmas : List State) (a : Declared) (axes : List Axis) (space : Space) (l : CertLine) → Along (axis_line p s k lemmas a axes space l) (axis_line p (in_version_2 s) j lemmas a axes space l)
+  axis-line : (lemmas : List State) (a : Declared) (axes : List Axis) (space : Space) (l : CertLine) → Along (axis_line p s k lemmas a axes space l) (axis_line p (in_version v s) j lemmas a axes space l)
   axis-line lemmas (real_between lo hi) axes space (real_interval l u) = axis-given _ BadNumber lemmas axes _
   axis-line lemmas any_bool axes space (bool_value w) = axis-along lemmas axes _
   axis-line lemmas _ axes space _ = tt
 
-  lemma-along : (lemmas : List State) (L : State) (pending : List State) → Along (on (lemma_goes_on s k lemmas L pending)) (on (lemma_goes_on (in_version_2 s) j lemmas L pending))
-  lemma-along lemmas L [] = inl (next_due (in_version_2 s) j (lemmas ++ (L ∷ [])), refl, at_next (lemmas ++ (L ∷ [])))
-  lemma-along lemmas L (S ∷ pending) = inl (lemma_due (in_version_2 s) j lemmas L S pending, refl, at_lemma lemmas L S pending)
+  lemma-along : (lemmas : List State) (L : State) (pending : List State) → Along (on (lemma_goes_on s k lemmas L pending)) (on (lemma_goes_on (in_version v s) j lemmas L pending))
+  lemma-along lemmas L [] = inl (next_due (in_version v s) j (lemmas ++ (L ∷ [])), refl, at_next (lemmas ++ (L ∷ [])))
+  lemma-along lemmas L (S ∷ pending) = inl (lemma_due (in_version v s) j lemmas L S pending, refl, at_lemma lemmas L S pending)
 
   after-same : (o : Option Left) (f : CertFault) (lemmas : List State) (L : State) (pending : List State) →
-      Along (after_lemma_rule o f pending (lemma_goes_on s k lemmas L)) (after_lemma_rule o f pending (lemma_goes_on (in_version_2 s) j lemmas L))
+      Along (after_lemma_rule o f pending (lemma_goes_on s k lemmas L)) (after_lemma_rule o f pending (lemma_goes_on (in_version v s) j lemmas L))
   after-same None f lemmas L pending = tt
   after-same (Some closed) f lemmas L pending = lemma-along lemmas L pending
   after-same (Some stays) f lemmas L pending = tt
@@ -173,10 +172,10 @@ module _ (p : Problem) (b : Option ℕ) (s : Loosenings) (k j : ℕ) (fewer : k 
   after-same (Some (two S' S'')) f lemmas L pending = lemma-along lemmas L (S' ∷ S'' ∷ pending)
 
   after-along : (o u : Option Left) → SameIfSome o u → (f : CertFault) (lemmas : List State) (L : State) (pending : List State) →
-      Along (after_lemma_rule o f pending (lemma_goes_on s k lemmas L)) (after_lemma_rule u f pending (lemma_goes_on (in_version_2 s) j lemmas L))
+      Along (after_lemma_rule o f pending (lemma_goes_on s k lemmas L)) (after_lemma_rule u f pending (lemma_goes_on (in_version v s) j lemmas L))
   after-along None u h f lemmas L pending = tt
   after-along (Some x) u h f lemmas L pending =
-      subst (λ (y : Option Left). Along (after_lemma_rule (Some x) f pending (lemma_goes_on s k lemmas L)) (after_lemma_rule y f pending (lemma_goes_on (in_version_2 s) j lemmas L)))
+      subst (λ (y : Option Left). Along (after_lemma_rule (Some x) f pending (lemma_goes_on s k lemmas L)) (after_lemma_rule y f pending (lemma_goes_on (in_version v s) j lemmas L)))
       (sym h) (after-same (Some x) f lemmas L pending)
 
   ruled-along : (t : Bool) (x y : Next) → Along x y → Along (ruled_line t x) (ruled_line t y)
@@ -188,13 +187,13 @@ module _ (p : Problem) (b : Option ℕ) (s : Loosenings) (k j : ℕ) (fewer : k 
   next-along _ _ tree_word (at_next lemmas) = past-along (nat_eq (length lemmas) k) (root_due s lemmas) Missing _ (tt {0})
   next-along _ _ _ (at_next lemmas) = tt
   next-along _ _ l (at_axis lemmas a axes space) = axis-line lemmas a.declared axes space l
-  next-along _ _ (yes_list js) (at_yes lemmas space) = given-along _ (no_due s k lemmas space js) (no_due (in_version_2 s) j lemmas space js) BadNumber (at_no lemmas space js)
+  next-along _ _ (yes_list js) (at_yes lemmas space) = given-along _ (no_due s k lemmas space js) (no_due (in_version v s) j lemmas space js) BadNumber (at_no lemmas space js)
   next-along _ _ _ (at_yes lemmas space) = tt
-  next-along _ _ (no_list js) (at_no lemmas space is) = given-along _ (lemma_due s k lemmas (state_of p space is js) (state_of p space is js) []) (lemma_due (in_version_2 s) j lemmas (state_of p space is js) (state_of p space is js) []) BadNumber
+  next-along _ _ (no_list js) (at_no lemmas space is) = given-along _ (lemma_due s k lemmas (state_of p space is js) (state_of p space is js) []) (lemma_due (in_version v s) j lemmas (state_of p space is js) (state_of p space is js) []) BadNumber
       (at_lemma lemmas (state_of p space is js) (state_of p space is js) [])
   next-along _ _ _ (at_no lemmas space is) = tt
   next-along _ _ (rule_line l) (at_lemma lemmas L S pending) = ruled-along (names_well p l) _ _
-      (after-along (rule p s lemmas S l) (rule p (in_version_2 s) lemmas S l) (if-some (rule p s lemmas S l) (rule p (in_version_2 s) lemmas S l) (rule_in_version_2 p s lemmas S l)) (RuleFails (word_of l)) lemmas L pending)
+      (after-along (rule p s lemmas S l) (rule p (in_version v s) lemmas S l) (if-some (rule p s lemmas S l) (rule p (in_version v s) lemmas S l) (rule_later p s v newer lemmas S l)) (RuleFails (word_of l)) lemmas L pending)
   next-along _ _ _ (at_lemma lemmas L S pending) = tt
 
   first-quiet : (d d' : Due) (l : CertLine) → Section d d' → stands_at p d (line l) ≡ []
@@ -218,7 +217,7 @@ module _ (p : Problem) (b : Option ℕ) (s : Loosenings) (k j : ℕ) (fewer : k 
     pub lemmas : List State
     pub count : length lemmas ≡ k
     pub old : Leads p b d (ls ++ (tree_word ∷ rest)) (next_due s k lemmas) (tree_word ∷ rest)
-    pub new : (more : List CertLine) → Leads p b d' (ls ++ more) (next_due (in_version_2 s) j lemmas) more
+    pub new : (more : List CertLine) → Leads p b d' (ls ++ more) (next_due (in_version v s) j lemmas) more
 
   no-axis-tree : (lemmas : List State) (a : Declared) (axes : List Axis) (space : Space) (n m : ℕ) (f : Due → Course) (e : Due) → course_next (axis_line p s k lemmas a axes space tree_word) n f ≡ reached e m → ⊥
   no-axis-tree lemmas (real_between lo hi) axes space n m f e z = cc
@@ -229,7 +228,7 @@ module _ (p : Problem) (b : Option ℕ) (s : Loosenings) (k j : ℕ) (fewer : k 
     lemmas = lemmas;
     count = eqb→eq (length lemmas) k (passes _ (given_goes (nat_eq (length lemmas) k) (root_due s lemmas) Missing (suc n) _ e m z).0);
     old = stay p b (next_due s k lemmas) (tree_word ∷ rest);
-    new = λ more. stay p b (next_due (in_version_2 s) j lemmas) more;
+    new = λ more. stay p b (next_due (in_version v s) j lemmas) more;
   }
   at-tree rest n m _ _ e (at_axis lemmas a axes space) z = absurd (no-axis-tree lemmas a.declared axes space (suc n) m _ e z)
   at-tree rest n m _ _ e (at_yes lemmas space) z = cc
@@ -254,5 +253,5 @@ module _ (p : Problem) (b : Option ℕ) (s : Loosenings) (k j : ℕ) (fewer : k 
 
   -- the lines of all lemmas, where the line `tree` follows and all is taken
   pub lemmas_end : (ls rest : List CertLine) (n m : ℕ) (e : Due) → course_of_lines p b n (next_due s k []) (ls ++ (tree_word ∷ rest)) ≡ reached e m →
-      Ends (next_due s k []) (next_due (in_version_2 s) j []) ls rest
-  lemmas_end ls rest n m e z = section-ends ls rest n m (next_due s k []) (next_due (in_version_2 s) j []) e (at_next []) z
+      Ends (next_due s k []) (next_due (in_version v s) j []) ls rest
+  lemmas_end ls rest n m e z = section-ends ls rest n m (next_due s k []) (next_due (in_version v s) j []) e (at_next []) z

@@ -2,14 +2,15 @@
 -- state; more lemmas follow those that were there.
 use Rattle.std.specs.Prelude.{◌≡◌, ◌≤◌, ◌-◌, ◌%◌, ℕ, suc, List, [], ◌∷◌, ◌++◌, Bool, true, false, cond, Option, None, IsTrue, length, map, drop, nat_eq, sum_by}
 use Rattle.poly_graph.specs.Problem.{Problem, first_crossed}
-use Rattle.cover_model.specs.State.{State, Loosenings}
-use Rattle.cover_model.specs.Rules.{Line, stuck, stay_by, open_state, stuck_atom}
+use Rattle.cover_model.specs.State.{State, Loosenings, in_version}
+use Rattle.cover_model.specs.Rules.{Line, stuck, stay_by}
 use Rattle.cover_model.specs.Derivation.{Tree, leaf, tree_lines, Lawful}
 use Rattle.cert_read.specs.CertLine.{CertLine, version, margin, delta, bound, cover, tree_word, end_word, line, parsed}
 use Rattle.cert_read.specs.Lines.{lines_of}
 use Rattle.cert_model.specs.Due.{Standing, left_open, version_due, nothing_due}
 use Rattle.cert_model.specs.Accepted.{IsAccepted, is_header, most_lemmas, certificate_text, course, reached}
 use Rattle.cert_model.specs.AnswerText.{has_open}
+use Rattle.cert_model.specs.Least.{is_lines_version}
 use Rattle.cert_model.specs.Written.{rule_lines, NamesWell, left_standing, IsHonestTree, tree_branches, LemmaTree, lemma_states, lemmas_lines}
 
 -- ---- lines that refine others
@@ -70,21 +71,22 @@ pub record IsSoundRead (p : Problem) (c : CoverRead) : Type 0 where
 
 -- ---- what goes on from it
 
--- the same margin and delta under version 2
-abbrev pub in_version_2 : Loosenings → Loosenings
-in_version_2 s = record s { version = 2 }
+-- The version v of a certificate that goes on from one of version w: 2 or 5, and not below it.
+abbrev pub IsVersionBehind : ℕ → ℕ → Type 0
+IsVersionBehind w v = IsTrue (is_lines_version v) × (w ≤ v)
 
 -- all lemmas: those that were read, and these
 abbrev pub all_lemmas : CoverRead → List LemmaTree → List State
 all_lemmas c xs = c.lemmas ++ lemma_states xs
 
-abbrev pub resumed_lines : Option ℕ → CoverRead → List LemmaTree → List Tree → List CertLine
-resumed_lines b c xs ts =
-    version 2 ∷ margin c.loosenings.margin_bits ∷ delta c.loosenings.delta_bits ∷ bound b ∷ cover (length (all_lemmas c xs)) ∷
+-- the lines of version v
+abbrev pub resumed_lines : ℕ → Option ℕ → CoverRead → List LemmaTree → List Tree → List CertLine
+resumed_lines v b c xs ts =
+    version v ∷ margin c.loosenings.margin_bits ∷ delta c.loosenings.delta_bits ∷ bound b ∷ cover (length (all_lemmas c xs)) ∷
     (c.lemma_lines ++ (lemmas_lines (length c.lemmas) xs ++ (tree_word ∷ (rule_lines (grafted c.main ts) ++ (end_word ∷ [])))))
 
-abbrev pub resumed_text : Option ℕ → CoverRead → List LemmaTree → List Tree → List ℕ
-resumed_text b c xs ts = certificate_text (resumed_lines b c xs ts)
+abbrev pub resumed_text : ℕ → Option ℕ → CoverRead → List LemmaTree → List Tree → List ℕ
+resumed_text v b c xs ts = certificate_text (resumed_lines v b c xs ts)
 
 -- the tree follows the rules from the state that stayed
 pub record IsGraft (p : Problem) (s : Loosenings) (lemmas : List State) (x : Standing) (t : Tree) : Type 0 where
@@ -139,15 +141,17 @@ AreShared p w s lemmas h k [] [] = Unit {0}
 AreShared p w s lemmas h k (x ∷ left) (t ∷ ts) = IsShared p w s lemmas (is_own h k) x t × AreShared p w s lemmas h (suc k) left ts
 AreShared p w s lemmas h k _ _ = ⊥
 
--- The certificate goes on from the one that was read in a share of what stayed there. It is accepted with what is left. What it has more is honest, and
+-- The certificate goes on from the one that was read, in its version or a later one, in a share of what stayed there. It is accepted with what is left. What it has more is honest, and
 -- no more branches than the budget; exactly so many where a state of the share is open.
 pub record IsResumption (p : Problem) (b : Option ℕ) (w budget : ℕ) (h : Share) (bytes cert : List ℕ) : Type 0 where
   pub read : CoverRead
   pub is_read : IsCoverRead p b bytes read
+  pub version : ℕ
+  pub behind : IsVersionBehind read.loosenings.version version
   pub lemmas : List LemmaTree
   pub trees : List Tree
-  pub text : cert ≡ resumed_text b read lemmas trees
-  pub accepted : IsAccepted p b cert (in_version_2 read.loosenings) (left_open (joined (each_left p (in_version_2 read.loosenings) (all_lemmas read lemmas) read.left trees)))
-  pub shared : AreShared p w (in_version_2 read.loosenings) (all_lemmas read lemmas) h 0 read.left trees
+  pub text : cert ≡ resumed_text version b read lemmas trees
+  pub accepted : IsAccepted p b cert (in_version version read.loosenings) (left_open (joined (each_left p (in_version version read.loosenings) (all_lemmas read lemmas) read.left trees)))
+  pub shared : AreShared p w (in_version version read.loosenings) (all_lemmas read lemmas) h 0 read.left trees
   pub within : sum_by tree_branches trees ≤ budget
-  pub spent : IsTrue (has_open (own_left h 0 (each_left p (in_version_2 read.loosenings) (all_lemmas read lemmas) read.left trees))) → sum_by tree_branches trees ≡ budget
+  pub spent : IsTrue (has_open (own_left h 0 (each_left p (in_version version read.loosenings) (all_lemmas read lemmas) read.left trees))) → sum_by tree_branches trees ≡ budget

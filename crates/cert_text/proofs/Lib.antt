@@ -2,6 +2,7 @@ pub mod Appended
 pub mod Counted
 pub mod Forest
 pub mod Items
+pub mod Margins
 pub mod Numbers
 pub mod Proved
 mod ReadLines

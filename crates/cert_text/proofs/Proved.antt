@@ -15,12 +15,13 @@ use Rattle.cert_model.specs.Standing.{Stands}
 use Rattle.cert_model.specs.Written.{lemma_states, left_standing, tree_standing, IsHonestTree, AreLemmaTrees}
 use Rattle.cert_model.specs.Laws.{IsLawfulCover}
 use Rattle.cert_model.proofs.Texts.{tree_accepted, tree_stand, tree_honest, tree_branch, crossing_texts, point_texts}
-use Rattle.cover_book.specs.Model.{BookModel, IsOfRoot, problem_in, loosenings_in}
+use Rattle.cover_book.specs.Model.{BookModel, IsOfRoot, problem_in, margins_of, loosenings_in}
 use Rattle.cover_book.specs.Tree.{lemma_tree, lemma_trees, cover_lemmas}
 use Rattle.cover_book.specs.Laws.{IsTreeOfBook}
-use Rattle.cover_book.proofs.Meaning.{tree_is_honest, fits_limits, rooted_tree_is_cover}
+use Rattle.cover_book.proofs.Meaning.{tree_is_honest, rooted_tree_is_cover}
 use Rattle.cover_book.proofs.Opens.{first_crosses}
 use Rattle.cert_text.specs.Laws.{BookTextIsAccepted, BookTextBranches, BookTextEndsHonestly, BookTextIsHonest, CrossedTextIsAccepted, PointTextIsAccepted}
+use Rattle.cert_text.proofs.Margins.{header_fits}
 
 -- ---- a book that opened in the root state with no lemmas
 
@@ -55,7 +56,7 @@ book_text_is_honest b w t left i r none k f = tree_honest (problem_in b) b.optio
 
 pub crossed_text_is_accepted : CrossedTextIsAccepted
 crossed_text_is_accepted b w none i e k =
-    crossing_texts (problem_in b) b.options.bound (loosenings_in b) (lemma_trees b) (fits_limits b w) (omega (arith, length-map b.lemmas lemma_tree, w.few_lemmas))
+    crossing_texts (problem_in b) b.options.bound (loosenings_in b) (lemma_trees b) (header_fits (margins_of b.options) w.limits.margins) (omega (arith, length-map b.lemmas lemma_tree, w.few_lemmas))
     (subst (λ (ks : List State). AreLemmaTrees (problem_in b) (loosenings_in b) ks (lemma_trees b)) none w.lemmas) i (first_crosses (problem_in b) i e) k
 
 pub point_text_is_accepted : PointTextIsAccepted

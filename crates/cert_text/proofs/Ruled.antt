@@ -24,7 +24,7 @@ no_operands a = record { written = sym (append-nil a); spelled = λ k. tt; short
 one-number : (n : ℕ) (a b : List ℕ) → b ≡ a ++ (32 ∷ decimal n) → b ≡ a ++ after_spaces (decimal n ∷ [])
 one-number n a b e = e ∙ ap (λ (t : List ℕ). a ++ (32 ∷ t)) (sym (append-nil (decimal n)))
 
-one-short : (n : ℕ) → IsCount n → length (after_spaces (decimal n ∷ [])) ≤ 4864
+one-short : (n : ℕ) → IsCount n → length (after_spaces (decimal n ∷ [])) ≤ 38912
 one-short n h = omega (arith, decimal_short n h, length-append (decimal n) [])
 
 pub atom_operand : (n : ℕ) (a b : List ℕ) → IsCount n → b ≡ a ++ (32 ∷ decimal n) → HasOperands a (of_atom n) b

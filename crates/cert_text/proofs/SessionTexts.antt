@@ -1,5 +1,5 @@
 -- The text of the books of several checks: the parts behind one another, and what it is accepted with.
-use Rattle.std.proofs.Common.{◌≡◌, ℕ, zero, suc, ◌+◌, ◌<◌, ◌≤◌, List, [], ◌∷◌, ◌++◌, take, get_or, length, append_assoc, Bool, Some, None, IsTrue, refl, ap, sym, ◌∙◌, subst, arith}
+use Rattle.std.proofs.Common.{◌≡◌, ℕ, zero, suc, ◌+◌, ◌<◌, ◌≤◌, List, [], ◌∷◌, ◌++◌, take, get_or, length, append_assoc, Bool, Some, None, refl, ap, sym, ◌∙◌, subst, arith}
 use Rattle.std.specs.Prelude.{slice_get}
 use Rattle.std.proofs.lemmas.List.{length-map, append-nil, take_all}
 use Rattle.interval_model.specs.Space.{Space}
@@ -7,7 +7,7 @@ use Rattle.poly_graph.specs.ProblemViews.{Parts, problem_of}
 use Rattle.problem_session.specs.Session.{checked_of, problems_of}
 use Rattle.cover_data.specs.declared.margins.Options.{Options}
 use Rattle.cert_read.specs.CertLine.{CertLine, checks, cover, keep}
-use Rattle.cert_model.specs.Accepted.{loosenings_fit, most_bytes}
+use Rattle.cert_model.specs.Accepted.{most_bytes}
 use Rattle.cert_model.specs.Laws.{CanBeWritten}
 use Rattle.cert_model.specs.Session.{AreAccepted, session_standing}
 use Rattle.cert_model.specs.SessionLaws.{WrittenPart, written_cover, written_point, part_lines, parts_lines, session_lines, session_text, values_of_parts, AreLawfulParts, is_session_header}
@@ -19,7 +19,8 @@ use Rattle.cover_book.proofs.Meaning.{fits_limits}
 use Rattle.cert_text.specs.Calls.{header_of}
 use Rattle.cert_text.specs.Lines.{HasAppended}
 use Rattle.cert_text.specs.Parts.{whole_point}
-use Rattle.cert_text.specs.Session.{body_lines, HasAppendedBody, HasAppendedPart, ArePartsOf, HasAppendedParts, TellsOf, session_loosenings, IsSessionText, IsSessionCertificateOf}
+use Rattle.cert_text.specs.Session.{body_lines, HasAppendedBody, HasAppendedPart, ArePartsOf, HasAppendedParts, TellsOf, session_loosenings, session_version, IsSessionText, IsSessionCertificateOf}
+use Rattle.cert_text.proofs.Margins.{session_version_fits}
 use Rattle.cert_text.proofs.Spelling.{nothing_appended, both_appended}
 use Rattle.cert_text.proofs.Sessions.{lawful_parts, values_count, each_tells}
 
@@ -91,7 +92,8 @@ module _ (o : Options) (c d : Parts × Bool) (later : List (Parts × Bool)) (boo
 
   header : (books : List BookModel) → AreBooksOf o [] (c ∷ d ∷ later) books → is_session_header (session_loosenings o)
   header [] h = absurd h
-  header (b ∷ rest) h = (refl, subst (λ (u : Options). IsTrue (loosenings_fit u.margin_bits u.delta_bits)) h.2 (fits_limits b h.0))
+  header (b ∷ rest) h =
+      subst (λ (u : Options). is_session_header (session_loosenings u)) h.2 (session_version_fits b.options.version h.0.limits.margins.version_is, fits_limits b h.0)
 
   fit : is_session_header (session_loosenings o)
   fit = header books are
@@ -128,14 +130,15 @@ first-options o u c later [] h g = absurd h
 first-options o u c later (b ∷ books) h g = sym g ∙ h.2
 
 -- what the code wrote
-pub session_written : (books : List BookModel) (u : Options) (t0 t1 t2 text : List ℕ) → HasFirst books u → t0 ≡ [] → HasAppended t0 (header_of 3 u) t1 → HasAppended t1 (checks (length books) ∷ []) t2 → HasAppendedParts t2 books text →
+pub session_written : (books : List BookModel) (u : Options) (v : ℕ) (t0 t1 t2 text : List ℕ) → HasFirst books u → v ≡ session_version u.version → t0 ≡ [] → HasAppended t0 (header_of v u) t1 → HasAppended t1 (checks (length books) ∷ []) t2 → HasAppendedParts t2 books text →
     length text ≤ most_bytes → IsSessionCertificateOf books text
-session_written books u t0 t1 t2 text first start h c f short = λ o p q later are.
+session_written books u v t0 t1 t2 text first is start h c f short = λ o p q later are.
     let parts : List WrittenPart = f.0 in
-    let all : HasAppended t0 (header_of 3 u ++ (checks (length books) ∷ parts_lines parts)) text =
-    both_appended t0 t1 text (header_of 3 u) (checks (length books) ∷ parts_lines parts) h (both_appended t1 t2 text (checks (length books) ∷ []) (parts_lines parts) c f.2) in
+    let head : Options → List CertLine = λ x. header_of (session_version x.version) x in
+    let all : HasAppended t0 (head u ++ (checks (length books) ∷ parts_lines parts)) text =
+    both_appended t0 t1 text (head u) (checks (length books) ∷ parts_lines parts) (subst (λ (n : ℕ). HasAppended t0 (header_of n u) t1) is h) (both_appended t1 t2 text (checks (length books) ∷ []) (parts_lines parts) c f.2) in
     session_tells o p q later books are parts f.1 text
-    (subst (λ (x : Options). HasAppended [] (header_of 3 x ++ (checks (length parts) ∷ parts_lines parts)) text) (first-options o u p (q ∷ later) books are first)
-    (subst (λ (n : ℕ). HasAppended [] (header_of 3 u ++ (checks n ∷ parts_lines parts)) text) (same-count books parts f.1)
-    (subst (λ (t : List ℕ). HasAppended t (header_of 3 u ++ (checks (length books) ∷ parts_lines parts)) text) start all)))
+    (subst (λ (x : Options). HasAppended [] (head x ++ (checks (length parts) ∷ parts_lines parts)) text) (first-options o u p (q ∷ later) books are first)
+    (subst (λ (n : ℕ). HasAppended [] (head u ++ (checks n ∷ parts_lines parts)) text) (same-count books parts f.1)
+    (subst (λ (t : List ℕ). HasAppended t (head u ++ (checks (length books) ∷ parts_lines parts)) text) start all)))
     short

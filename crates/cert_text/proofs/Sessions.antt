@@ -11,7 +11,7 @@ use Rattle.poly_graph.specs.Problem.{Problem}
 use Rattle.poly_graph.specs.ProblemViews.{Parts, problem_of}
 use Rattle.problem_session.specs.Session.{problems_of}
 use Rattle.cover_model.specs.Space.{IsGridSpace}
-use Rattle.cover_model.specs.State.{State, Loosenings, delta_of, sure, root_state}
+use Rattle.cover_model.specs.State.{State, Loosenings, in_version, delta_of, sure, root_state}
 use Rattle.cover_model.specs.Rules.{open_line}
 use Rattle.cover_model.specs.Honest.{is_honest, branch_count}
 use Rattle.cover_model.specs.Derivation.{Tree, Lawful}
@@ -32,7 +32,7 @@ use Rattle.cover_book.specs.Laws.{IsTreeOfBook}
 use Rattle.cover_book.specs.Session.{AreBooksOf}
 use Rattle.cover_book.proofs.Meaning.{tree_is_honest}
 use Rattle.cover_book.proofs.Opens.{first_crosses}
-use Rattle.cert_text.specs.Session.{IsEndOf, IsPartOf, ArePartsOf, StandsHonestly, TellsOf, session_loosenings}
+use Rattle.cert_text.specs.Session.{IsEndOf, IsPartOf, ArePartsOf, StandsHonestly, TellsOf, session_loosenings, session_version}
 
 if-some : {X : Type 0} (P : X → Type 0) (o : Option X) (x : X) → o ≡ Some x → IfSome o P → P x
 if-some P None x e h = cc
@@ -91,11 +91,22 @@ module _ (b : BookModel) (w : IsBook b) (rooted : IsOfRoot b) where
 
   -- ---- what it tells
 
-  abbrev third : Loosenings
-  third = in_version_3 s
+  abbrev several : Loosenings
+  several = in_version (session_version s.version) s
+
+  -- what holds in the version of the book, and of version 2 in version 3, holds in the version for several checks
+  in-several : (P : Loosenings → Type 0) → (s.version ≡ 2 → P (in_version_3 s)) → P s → P several
+  in-several P f h = elim w.limits.margins.version_is [
+    | inl e ↦ subst P (sym (ap (λ (v : ℕ). in_version (session_version v) s) e)) (f e)
+    | inr e ↦ subst P (sym (ap (λ (v : ℕ). in_version (session_version v) s) e ∙ ap (λ (v : ℕ). in_version v s) (sym e))) h
+  ]
+
+  honest-again : (least : ℕ) (x : Standing) → IsTrue (is_honest p least s x.state x.does) → IsTrue (is_honest p least several x.state x.does)
+  honest-again least x h =
+      in-several (λ (t : Loosenings). IsTrue (is_honest p least t x.state x.does)) (λ e. honest_in_version_3 s e p least x.state x.does ∙ h) h
 
   abbrev stood : List Standing → List Stands
-  stood xs = map (λ (x : Standing). record { loosenings = third; line = x }) xs
+  stood xs = map (λ (x : Standing). record { loosenings = several; line = x }) xs
 
   same-branches : (xs : List Standing) → branches_of (stood xs) ≡ branches_of (map (λ (x : Standing). record { loosenings = s; line = x }) xs)
   same-branches [] = refl
@@ -105,14 +116,14 @@ module _ (b : BookModel) (w : IsBook b) (rooted : IsOfRoot b) where
   honestly t left i =
       let lines : List Standing = tree_standing p s (cover_lemmas b) (root_state p) t in
       let w' : ℕ = b.options.least_bits in
-      let again : (x : Standing) → IsTrue (is_honest p w' s x.state x.does) → IsTrue (is_honest p w' third x.state x.does) = λ x h. honest_in_version_3 s p w' x.state x.does ∙ h in
+      let again = honest-again w' in
       record {
         branches = same-branches lines ∙ branches_stand p None s (cover_lemmas b) (at-root t left i) ∙ i.branches;
-        ends = All-map (λ (x : Stands). (x.line.does ≡ open_line → ⊥) → IsTrue (is_honest p w' x.loosenings x.line.state x.line.does)) (λ (x : Standing). record { loosenings = third; line = x }) lines
-            (All-weaker (λ (x : Standing). (x.does ≡ open_line → ⊥) → IsTrue (is_honest p w' s x.state x.does)) (λ (x : Standing). (x.does ≡ open_line → ⊥) → IsTrue (is_honest p w' third x.state x.does))
+        ends = All-map (λ (x : Stands). (x.line.does ≡ open_line → ⊥) → IsTrue (is_honest p w' x.loosenings x.line.state x.line.does)) (λ (x : Standing). record { loosenings = several; line = x }) lines
+            (All-weaker (λ (x : Standing). (x.does ≡ open_line → ⊥) → IsTrue (is_honest p w' s x.state x.does)) (λ (x : Standing). (x.does ≡ open_line → ⊥) → IsTrue (is_honest p w' several x.state x.does))
             (λ x h n. again x (h n)) lines (subst (λ (S : State). All (λ (x : Standing). (x.does ≡ open_line → ⊥) → IsTrue (is_honest p w' s x.state x.does)) (tree_standing p s (cover_lemmas b) S t)) rooted i.honest));
-        all = λ f. All-map (λ (x : Stands). IsTrue (is_honest p w' x.loosenings x.line.state x.line.does)) (λ (x : Standing). record { loosenings = third; line = x }) lines
-            (All-weaker (λ (x : Standing). IsTrue (is_honest p w' s x.state x.does)) (λ (x : Standing). IsTrue (is_honest p w' third x.state x.does)) again lines (subst (λ (S : State). All (λ (x : Standing). IsTrue (is_honest p w' s x.state x.does)) (tree_standing p s (cover_lemmas b) S t)) rooted (tree_is_honest b w t left i f)));
+        all = λ f. All-map (λ (x : Stands). IsTrue (is_honest p w' x.loosenings x.line.state x.line.does)) (λ (x : Standing). record { loosenings = several; line = x }) lines
+            (All-weaker (λ (x : Standing). IsTrue (is_honest p w' s x.state x.does)) (λ (x : Standing). IsTrue (is_honest p w' several x.state x.does)) again lines (subst (λ (S : State). All (λ (x : Standing). IsTrue (is_honest p w' s x.state x.does)) (tree_standing p s (cover_lemmas b) S t)) rooted (tree_is_honest b w t left i f)));
       }
 
   part-tells-here : (x : WrittenPart) → IsPartOf b x → TellsOf b (value_of_part s p x) (stood (standing_of_part s p x))
@@ -129,15 +140,20 @@ module _ (b : BookModel) (w : IsBook b) (rooted : IsOfRoot b) where
         standing = subst (λ (ks : List State). StandsHonestly b (stood (tree_standing p s ks (root_state p) t))) (sym same) (honestly t h.3.0 h.3.1);
       }))
 
-  -- in the version for several checks
-  pub part_tells : (x : WrittenPart) → IsPartOf b x → TellsOf b (value_of_part third p x) (stood (standing_of_part third p x))
+  -- in the version for several checks it follows the rules, with the same value and the same standing
+  part-law : (x : WrittenPart) → IsPartOf b x →
+      IsLawfulPart several p b.kept x × (value_of_part several p x ≡ value_of_part s p x) × (standing_of_part several p x ≡ standing_of_part s p x)
+  part-law x h = in-several (λ (t : Loosenings). IsLawfulPart t p b.kept x × (value_of_part t p x ≡ value_of_part s p x) × (standing_of_part t p x ≡ standing_of_part s p x))
+      (λ e. lawful_in_version_3 s e p b.kept x (part-lawful x h)) (part-lawful x h, refl, refl)
+
+  pub part_tells : (x : WrittenPart) → IsPartOf b x → TellsOf b (value_of_part several p x) (stood (standing_of_part several p x))
   part_tells x h =
-      let law = lawful_in_version_3 s refl p b.kept x (part-lawful x h) in
-      subst (λ (v : Value). TellsOf b v (stood (standing_of_part third p x))) (sym law.1)
+      let law = part-law x h in
+      subst (λ (v : Value). TellsOf b v (stood (standing_of_part several p x))) (sym law.1)
       (subst (λ (xs : List Standing). TellsOf b (value_of_part s p x) (stood xs)) (sym law.2) (part-tells-here x h))
 
-  pub lawful_part : (x : WrittenPart) → IsPartOf b x → IsLawfulPart third p b.kept x
-  lawful_part x h = (lawful_in_version_3 s refl p b.kept x (part-lawful x h)).0
+  pub lawful_part : (x : WrittenPart) → IsPartOf b x → IsLawfulPart several p b.kept x
+  lawful_part x h = (part-law x h).0
 
 -- ---- all parts
 

@@ -3,15 +3,13 @@ use Rattle.std.proofs.Common.{◌≡◌, inl, inr, ℕ, zero, suc, ◌<◌, ◌�
 use Rattle.std.specs.Prelude.{slice_get}
 use Rattle.std.specs.List.{AllByRecursion}
 use Rattle.std.proofs.lemmas.List.{length-map}
-use Rattle.std.proofs.lemmas.Bool.{le-leb}
-use Rattle.dyadic.proofs.Equal.{both_pass}
 use Rattle.interval_model.specs.Space.{Space}
 use Rattle.poly_graph.specs.Problem.{Axis, Problem, crossed_in, first_crossed}
 use Rattle.cover_model.specs.State.{State, Loosenings}
 use Rattle.cover_model.specs.Derivation.{Tree}
 use Rattle.cert_read.specs.CertLine.{CertLine, cover, point_word, tree_word, end_word, crossing}
 use Rattle.cover_model.specs.Fits.{IsShownAt}
-use Rattle.cert_model.specs.Accepted.{IsAccepted, loosenings_fit, most_bytes}
+use Rattle.cert_model.specs.Accepted.{IsAccepted, most_bytes}
 use Rattle.cert_model.specs.Due.{Standing, at_point, left_open}
 use Rattle.cert_model.specs.Laws.{CanBeWritten}
 use Rattle.cert_model.specs.SessionLaws.{WrittenEnd, written_tree, written_crossing, end_lines}
@@ -37,6 +35,7 @@ use Rattle.cert_text.specs.Parts.{header_lines, whole_point, HasFewMarks, learne
 use Rattle.cert_text.specs.Means.{EndsHonestly, HasAppendedTreeOf, IsTreeText, IsCrossedText, IsCertificateOf}
 use Rattle.cert_text.proofs.Spelling.{both_appended}
 use Rattle.cert_text.proofs.Counted.{few_numbers}
+use Rattle.cert_text.proofs.Margins.{header_fits}
 use Rattle.cert_text.proofs.Proved.{book_text_is_accepted, book_text_branches, book_text_ends_honestly, book_text_is_honest, crossed_text_is_accepted, point_text_is_accepted}
 
 -- ---- what a book has
@@ -151,10 +150,6 @@ module _ (b : BookModel) (w : IsBook b) (none : b.kept ≡ []) (rooted : IsOfRoo
 
 -- ---- points
 
-pub margins_fit : (m : Margins) → AreMargins m → IsTrue (loosenings_fit m.margin_bits m.delta_bits)
-margins_fit m h =
-    both_pass _ _ (both_pass _ _ (both_pass _ _ (le-leb 1 m.delta_bits h.some_delta) (le-leb m.delta_bits 30 h.few_delta)) (le-leb (suc m.delta_bits) m.margin_bits h.above_delta)) (le-leb m.margin_bits 60 h.few_margin)
-
 pub whole_point_appended : (space : Space) (a b c d : List ℕ) → HasAppended a (point_word ∷ []) b → HasAppended b (map point_line space) c → HasAppended c (end_word ∷ []) d → HasAppended a (whole_point space) d
 whole_point_appended space a b c d p x e = both_appended a b d (point_word ∷ []) _ p (both_appended b c d (map point_line space) (end_word ∷ []) x e)
 
@@ -167,7 +162,7 @@ point_written s bound space space' old a text none same h x =
 pub point_means : (p : Problem) (m : Margins) (bound : Option ℕ) (space : Space) (text : List ℕ) → HasAppended [] (point_lines (loosenings_of m) bound space) text → length text ≤ most_bytes → AreMargins m →
     IsShownAt p (loosenings_of m) space → IsAccepted p bound text (loosenings_of m) (at_point space)
 point_means p m bound space text a h k g = subst (λ (x : List ℕ). IsAccepted p bound x (loosenings_of m) (at_point space)) (sym a.written)
-    (point_text_is_accepted p bound (loosenings_of m) (margins_fit m k) space g (can-be (point_lines (loosenings_of m) bound space) text a h))
+    (point_text_is_accepted p bound (loosenings_of m) (header_fits m k) space g (can-be (point_lines (loosenings_of m) bound space) text a h))
 
 -- ---- what is appended to the body
 

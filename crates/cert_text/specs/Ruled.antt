@@ -21,19 +21,19 @@ abbrev pub after_spaces : List (List ℕ) → List ℕ
 after_spaces [] = []
 after_spaces (w ∷ ws) = 32 ∷ (w ++ after_spaces ws)
 
--- from 1 to 64 pairs, where they are pairs
+-- from 1 to 512 pairs, where they are pairs
 abbrev pub HasFewPairs : Operands → Type 0
-HasFewPairs (of_multipliers ps) = (0 < length ps) × (length ps ≤ 64)
+HasFewPairs (of_multipliers ps) = (0 < length ps) × (length ps ≤ 512)
 HasFewPairs o = Unit {0}
 
 -- the new text is the old one and these operands behind it, which can be spelled and are short where they are few
 pub record HasOperands (old : List ℕ) (o : Operands) (new : List ℕ) : Type 0 where
   pub written : new ≡ old ++ after_spaces (operand_words o)
   pub spelled : HasFewPairs o → AreSpelledOperands o
-  pub short : HasFewPairs o → length (after_spaces (operand_words o)) ≤ 4864
+  pub short : HasFewPairs o → length (after_spaces (operand_words o)) ≤ 38912
 
 -- the same with the line's first word and its end
 pub record HasRuled (old : List ℕ) (w : RuleWord) (o : Operands) (new : List ℕ) : Type 0 where
   pub written : new ≡ old ++ ((word_text w ++ after_spaces (operand_words o)) ++ (10 ∷ []))
   pub spelled : HasFewPairs o → AreSpelledOperands o
-  pub short : HasFewPairs o → length (after_spaces (operand_words o)) ≤ 4864
+  pub short : HasFewPairs o → length (after_spaces (operand_words o)) ≤ 38912

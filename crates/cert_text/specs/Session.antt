@@ -1,10 +1,10 @@
 -- The certificate of several checks, of their books: a part for each, the point where its book keeps one, else the book's lemmas and tree.
-use Rattle.std.specs.Prelude.{◌≡◌, ◌⊎◌, ℕ, List, [], ◌∷◌, ◌++◌, Bool, Some, None, All, IsTrue, length, slice_get}
+use Rattle.std.specs.Prelude.{◌≡◌, ◌⊎◌, ℕ, List, [], ◌∷◌, ◌++◌, Bool, cond, Some, None, All, IsTrue, length, nat_eq, slice_get}
 use Rattle.interval_model.specs.Space.{Space}
 use Rattle.poly_graph.specs.Problem.{first_crossed}
 use Rattle.poly_graph.specs.ProblemViews.{Parts}
 use Rattle.problem_session.specs.Session.{problems_of}
-use Rattle.cover_model.specs.State.{State, Loosenings}
+use Rattle.cover_model.specs.State.{State, Loosenings, in_version}
 use Rattle.cover_model.specs.Honest.{is_honest, not_shown}
 use Rattle.cover_model.specs.Derivation.{Tree}
 use Rattle.cover_data.specs.declared.margins.Options.{Options}
@@ -12,7 +12,7 @@ use Rattle.cover_data.specs.Margins.{margins_of, loosenings_of}
 use Rattle.cert_read.specs.CertLine.{CertLine, tree_word, end_word}
 use Rattle.cert_model.specs.Due.{Standing, Value, at_point, left_open}
 use Rattle.cert_model.specs.Session.{AreAccepted, session_standing}
-use Rattle.cert_model.specs.SessionLaws.{WrittenEnd, written_tree, written_crossing, WrittenPart, written_cover, written_point, end_lines, part_lines, parts_lines, in_version_3}
+use Rattle.cert_model.specs.SessionLaws.{WrittenEnd, written_tree, written_crossing, WrittenPart, written_cover, written_point, end_lines, part_lines, parts_lines}
 use Rattle.cert_model.specs.Standing.{Stands, branches_of}
 use Rattle.cert_model.specs.Written.{LemmaTree, lemmas_lines}
 use Rattle.cover_book.specs.Model.{BookModel, problem_in, loosenings_in}
@@ -93,9 +93,13 @@ pub record IsTreePart (b : BookModel) (v : Value) (lines : List Stands) : Type 0
 abbrev pub TellsOf : BookModel → Value → List Stands → Type 0
 TellsOf b v lines = IsPointPart b v lines ⊎ (IsCrossedPart b v lines ⊎ IsTreePart b v lines)
 
+-- the version of a certificate of several checks whose parts have the lines of this version
+abbrev pub session_version : ℕ → ℕ
+session_version v = cond (nat_eq v 2) 3 v
+
 -- the margin and delta of options, in the version for several checks
 abbrev pub session_loosenings : Options → Loosenings
-session_loosenings o = in_version_3 (loosenings_of (margins_of o))
+session_loosenings o = in_version (session_version o.version) (loosenings_of (margins_of o))
 
 -- the text is accepted for the problems, with a value for each book
 pub record IsSessionText (o : Options) (ps : List (Parts × Bool)) (books : List BookModel) (text : List ℕ) : Type 0 where

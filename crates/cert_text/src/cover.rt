@@ -8,7 +8,7 @@ use crate::append::{append_counted, append_plain};
 use crate::facts::fits_certificate;
 use crate::keyword::{Counted, Plain};
 use crate::part::append_lemmas_of;
-use crate::parts::{VERSION, append_header};
+use crate::parts::append_header;
 use crate::walk::append_cover;
 use cover_book::Book;
 use std::alloc::{AllocError, Global};
@@ -33,7 +33,8 @@ pub fn write_cover(alloc: Global, book: &Book) -> Result<Vec<u8>, AllocError>
         IfOk result (λ text. IsCertificateOf book.now text.items) }
 {
     let mut text = Vec::new(alloc);
-    append_header(&mut text, VERSION, book.options())?;
+    let options = book.options();
+    append_header(&mut text, options.version, options)?;
     append_counted(&mut text, Counted::Cover, book.lemma_count())?;
     append_body(&mut text, alloc, book)?;
     fits_certificate(&text);

@@ -24,13 +24,7 @@ use cover_line::{Ending, Rule, Staying, Word};
 use ival::{Domain, Space, Truths};
 use std::alloc::AllocError;
 
-/// The version of the format for one check.
-pub(crate) const VERSION: u32 = 2;
-
-/// The version of the format for several checks.
-pub(crate) const SESSION_VERSION: u32 = 3;
-
-/// Appends the version, and of the options the margin, the delta and the bound. Out of memory is its one error.
+/// Appends this version, and of the options the margin, the delta and the bound. Out of memory is its one error.
 pub fn append_header(text: &mut Vec<u8>, version: u32, options: &Options) -> Result<(), AllocError>
     ensures { Appends text.old text.new (header_of version options.now) result }
 {

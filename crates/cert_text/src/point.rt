@@ -7,7 +7,7 @@ ghost use Rattle.cert_text.specs.Parts.{whole_point};
 use crate::append::append_plain;
 use crate::facts::fits_certificate;
 use crate::keyword::Plain;
-use crate::parts::{VERSION, append_header, append_point};
+use crate::parts::{append_header, append_point};
 use cover_data::{Options, Point};
 use ival::Space;
 use poly_graph::Problem;
@@ -22,7 +22,7 @@ pub fn append_whole_point(text: &mut Vec<u8>, space: &Space) -> Result<(), Alloc
     append_plain(text, Plain::End)
 }
 
-/// The certificate of a point, as text, at the margin, the delta and the bound of the options. It is accepted for the
+/// The certificate of a point, as text, in the version, at the margin, the delta and the bound of the options. It is accepted for the
 /// problem where the point is shown for it. Out of memory is its one error.
 pub fn write_point(
     alloc: Global,
@@ -34,7 +34,7 @@ pub fn write_point(
     ensures accepted { IfOk result (IsTextOfPoint problem.now options.now point.now) }
 {
     let mut text = Vec::new(alloc);
-    append_header(&mut text, VERSION, options)?;
+    append_header(&mut text, options.version, options)?;
     append_whole_point(&mut text, point.space())?;
     fits_certificate(&text);
     Ok(text)

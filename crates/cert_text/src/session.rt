@@ -1,18 +1,25 @@
 // The certificate of the books of several checks.
 ghost use Rattle.std.specs.Prelude.{◌≡◌, IfOk, None, OnOk};
-ghost use Rattle.cert_text.specs.Session.{HasAppendedPart, HasAppendedParts, IsSessionCertificateOf};
+ghost use Rattle.cert_text.specs.Session.{HasAppendedPart, HasAppendedParts, IsSessionCertificateOf, session_version};
 
 use crate::append::append_counted;
 use crate::cover::append_body;
 use crate::facts::fits_certificate;
 use crate::keyword::Counted;
-use crate::parts::{SESSION_VERSION, append_header};
+use crate::parts::append_header;
 use crate::point::append_whole_point;
 use cover_book::Book;
 use std::alloc::{AllocError, Global};
 
 // A certificate has at most so many parts.
 const MOST_PARTS: usize = 4_294_967_295;
+
+// The version of a certificate of several checks whose parts have the lines of this version.
+fn session_version(version: u32) -> u32
+    ensures { result ≡ session_version version }
+{
+    if version == 2 { 3 } else { version }
+}
 
 // The number of a book's lemmas, how many of them it opened with, and the others with its tree.
 fn append_cover_part(text: &mut Vec<u8>, alloc: Global, book: &Book) -> Result<(), AllocError>
@@ -58,7 +65,8 @@ pub fn write_session(alloc: Global, books: &[Book]) -> Result<Vec<u8>, AllocErro
     let Some(first) = books.first() else {
         return Ok(text);
     };
-    append_header(&mut text, SESSION_VERSION, first.options())?;
+    let options = first.options();
+    append_header(&mut text, session_version(options.version), options)?;
     append_counted(&mut text, Counted::Checks, books.len() as u32)?;
     append_parts(&mut text, alloc, books)?;
     fits_certificate(&text);

@@ -143,10 +143,10 @@ lacks_so xs h = by (nat_eq (get_or xs (length xs - 1) 0) 10) refl where
   by false e = ends_not xs (length xs - 1) (omega arith) (λ k. true≢false (sym (ap (λ (n : ℕ). nat_eq n 10) k) ∙ e))
 
 -- the first line with its break, what follows the first break, and a break where one is wanted
-pub written_so : (checks : ℕ) (cert rest first text : List ℕ) (t : Bool) → rest ≡ behind_break cert → with_break rest ≡ cond t (rest ++ (10 ∷ [])) rest → first ≡ newest_line checks ++ (10 ∷ []) →
-    text ≡ cond t ((first ++ rest) ++ (10 ∷ [])) (first ++ rest) → text ≡ upgraded checks cert
-written_so checks cert rest first text t e k f h = by t k h ∙ ap (λ (x : List ℕ). x ++ with_break rest) f ∙ append_assoc (newest_line checks) (10 ∷ []) (with_break rest)
-    ∙ ap (λ (x : List ℕ). newest_line checks ++ (10 ∷ x)) (behind_text cert rest e) where
+pub written_so : (cert rest first text : List ℕ) (t : Bool) → rest ≡ behind_break cert → with_break rest ≡ cond t (rest ++ (10 ∷ [])) rest → first ≡ newest_line ++ (10 ∷ []) →
+    text ≡ cond t ((first ++ rest) ++ (10 ∷ [])) (first ++ rest) → text ≡ upgraded cert
+written_so cert rest first text t e k f h = by t k h ∙ ap (λ (x : List ℕ). x ++ with_break rest) f ∙ append_assoc newest_line (10 ∷ []) (with_break rest)
+    ∙ ap (λ (x : List ℕ). newest_line ++ (10 ∷ x)) (behind_text cert rest e) where
       by : (u : Bool) → with_break rest ≡ cond u (rest ++ (10 ∷ [])) rest → text ≡ cond u ((first ++ rest) ++ (10 ∷ [])) (first ++ rest) → text ≡ first ++ with_break rest
       by true j g = g ∙ append_assoc first rest (10 ∷ []) ∙ ap (λ (x : List ℕ). first ++ x) (sym j)
       by false j g = g ∙ ap (λ (x : List ℕ). first ++ x) (sym j)

@@ -1,3 +1,5 @@
 pub mod Breaks
+pub mod GoalRaised
 pub mod Raised
+pub mod SessionRaised
 pub mod Upgrades

@@ -1,31 +1,28 @@
 //! A certificate in the newest version of its format.
 //!
-//! What is accepted under an older version is accepted in the newest one for as many checks, version 2 for one and 3 for
-//! several, with the same values; so a certificate that was checked can be written anew.
+//! What is accepted under an older version is accepted in the newest one, version 5, with the same values; so a certificate
+//! that was checked can be written anew.
 #![tactic(auto)]
 
 ghost use Rattle.std.specs.Prelude.{◌≡◌, ◌≤◌, ◌++◌, ◌∷◌, [], IfOk, cond, length};
 ghost use Rattle.cert_model.specs.Accepted.{most_bytes};
-ghost use Rattle.cert_upgrade.specs.Upgraded.{newest_line, upgraded, UpgradedIsAccepted};
+ghost use Rattle.cert_upgrade.specs.Upgraded.{upgraded, UpgradedIsAccepted, UpgradedIsAcceptedOfGoal};
 ghost use Rattle.cert_upgrade.specs.Breaks.{behind_break, with_break};
 
 use std::alloc::{AllocError, Global};
 
-/// A certificate that is accepted is accepted in the newest version for its checks, with the same values.
+// The first line of the newest version, with its break.
+const FIRST_LINE: &[u8] = b"dpoly 5\n";
+
+/// A certificate that is accepted is accepted in the newest version, with the same values.
 pub fn upgraded_is_accepted()
     ensures { UpgradedIsAccepted }
 {}
 
-// The first line of the newest version for so many checks, with its break.
-fn first_line(checks: usize) -> &'static [u8]
-    ensures { result.now ≡ newest_line checks ++ (10 ∷ []) }
-{
-    if checks > 1 {
-        b"dpoly 3\n"
-    } else {
-        b"dpoly 2\n"
-    }
-}
+/// One of a script with a goal, of its check or its least value, is accepted so, too.
+pub fn upgraded_is_accepted_of_goal()
+    ensures { UpgradedIsAcceptedOfGoal }
+{}
 
 // What follows the first line break.
 fn behind_first_break(cert: &[u8]) -> &[u8]
@@ -46,14 +43,14 @@ fn lacks_break(rest: &[u8]) -> bool
     !rest.is_empty() && rest[rest.len() - 1] != b'\n'
 }
 
-/// The lines of a certificate of so many checks, each ended by a line break, behind the first line of the newest version.
-pub fn upgrade(alloc: Global, cert: &[u8], checks: usize) -> Result<Vec<u8>, AllocError>
-    ensures text { IfOk result (λ text. text.items ≡ upgraded checks cert.now) }
+/// The lines of a certificate, each ended by a line break, behind the first line of the newest version.
+pub fn upgrade(alloc: Global, cert: &[u8]) -> Result<Vec<u8>, AllocError>
+    ensures text { IfOk result (λ text. text.items ≡ upgraded cert.now) }
     ensures fits { IfOk result (λ text. length text.items ≤ most_bytes) }
 {
     let rest = behind_first_break(cert);
     let mut text = Vec::new(alloc);
-    text.extend_from_slice(first_line(checks))?;
+    text.extend_from_slice(FIRST_LINE)?;
     text.extend_from_slice(rest)?;
     if lacks_break(rest) {
         text.push(b'\n')?;

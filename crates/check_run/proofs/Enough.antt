@@ -1,11 +1,11 @@
 -- The width that a plan names is enough for `solve`.
-use Rattle.std.proofs.Common.{◌≡◌, ◌++◌, inl, inr, ℕ, zero, suc, ◌+◌, List, [], ◌∷◌, Bool, Option, Some, None, length, refl, ap, sym, subst, ◌∙◌, ap₂, arith, append-nil}
+use Rattle.std.proofs.Common.{◌≡◌, ◌++◌, inl, inr, ℕ, zero, suc, ◌+◌, List, [], ◌∷◌, Bool, Option, Some, None, refl, ap, sym, subst, ◌∙◌, ap₂, arith, append-nil}
 use Rattle.std.specs.Prelude.{slice_get}
 use Rattle.std.proofs.lemmas.Option.{none-some}
 use Rattle.command_line.specs.declared.request.Options.{Options}
 use Rattle.command_line.specs.Words.{Plan, Solve}
 use Rattle.poly_graph.specs.Problem.{IsProblem, Problem}
-use Rattle.cover_model.specs.State.{Loosenings}
+use Rattle.cover_model.specs.State.{Loosenings, in_version}
 use Rattle.cert_model.specs.Due.{Value, at_point, left_open}
 use Rattle.cert_model.specs.AnswerText.{solve_text, unsat_text, delta_sat_text, budget_text}
 use Rattle.width_plan.specs.Plan as width
@@ -16,14 +16,15 @@ use Rattle.cert_model.specs.Session.{AreAccepted}
 use Rattle.script_fault.specs.declared.fault.ScriptFault.{ScriptFault}
 use Rattle.check_run.specs.ScriptFaults.{fault_text}
 use Rattle.script_reading.specs.Faults.{session_fault}
-use Rattle.smt_script.specs.Levels.{Asked, checks_of}
+use Rattle.smt_script.specs.Levels.{Asked}
 use Rattle.script_reading.specs.Session.{AreBuilt, HasSession, asked_in, carried_in}
-use Rattle.check_run.specs.Answer.{loosenings_for, solve_texts, AreAnswers, AreFoundFrom, IsFoundPart}
+use Rattle.check_run.specs.Answer.{loosenings_of, solve_texts, AreAnswers, AreFoundFrom, IsFoundPart}
 use Rattle.check_run.specs.Course.{Course}
 use Rattle.check_run.specs.Can.{ArePlans, CanSolve, CanBy, OfSession}
 use Rattle.check_run.specs.Headline.{AreEnoughFrom, AreOptionsAt, HasOneCheck, IsEnoughAt, NeverUnknownWidth, NeverUnknownWidthAt, unknown_width_word}
 use Rattle.check_run.proofs.Apart.{apart}
 use Rattle.check_run.proofs.Single.{one_problem, one_value}
+use Rattle.check_run.proofs.Versions.{text_again}
 
 -- each check of a script has one problem
 abbrev pub SessionIsOne : Type 0
@@ -68,10 +69,11 @@ module _ (one : SessionIsOne) (words : Plan) (script : List ℕ) (ps : List (Pro
 
   never-value : (o : Options) → AreOptionsAt words bits o → (qs : List (Problem × Bool)) → HasSession o.bound qs script → (cert : List ℕ) (values : List Value) → AreAnswers qs o cert values →
       (q : Problem) (x : Bool) (v : Value) → slice_get qs k ≡ Some (q, x) → slice_get values k ≡ Some v →
-      (rest : List ℕ) → solve_text q o.budget (loosenings_for (length qs) o) v ≡ unknown_width_word ++ rest → ⊥
-  never-value o is qs also cert values answers q x (at_point space) there value rest same = apart (unknown_width_word ++ rest) (delta_sat_text q (loosenings_for (length qs) o) space) 0 (sym same) refl
+      (rest : List ℕ) → solve_text q o.budget (loosenings_of o) v ≡ unknown_width_word ++ rest → ⊥
+  never-value o is qs also cert values answers q x (at_point space) there value rest same = apart (unknown_width_word ++ rest) (delta_sat_text q (loosenings_of o) space) 0 (sym same) refl
   never-value o is qs also cert values answers q x (left_open left) there value rest same =
-      let s : Loosenings = loosenings_for (length qs) o in
+      let s : Loosenings = in_version answers.version (loosenings_of o) in
+      let again = text_again q o.budget answers.version (loosenings_of o) (left_open left) in
       let from_first : 0 + k ≡ k = omega arith in
       let found = subst (λ (j : ℕ). IsFoundPart qs o cert j q (left_open left)) from_first (found-at qs o cert 0 k qs values answers.found q x (left_open left) there value) in
       let part : IsPlannedPart qs o.bound cert s k q left o.least_bits = record {
@@ -85,8 +87,8 @@ module _ (one : SessionIsOne) (words : Plan) (script : List ℕ) (ps : List (Pro
         honest = found.honest;
       } in
       elim (part_never_answers_width qs o.bound cert s k q left o.least_bits o.budget part) [
-        | inl h ↦ apart (unknown_width_word ++ rest) (unsat_text s) 2 (sym same ∙ h) refl
-        | inr h ↦ apart (unknown_width_word ++ rest) (budget_text o.budget) 8 (sym same ∙ h) refl
+        | inl h ↦ apart (unknown_width_word ++ rest) (unsat_text s) 2 (sym same ∙ sym again ∙ h) refl
+        | inr h ↦ apart (unknown_width_word ++ rest) (budget_text o.budget) 8 (sym same ∙ sym again ∙ h) refl
       ]
 
   pub never_at : NeverUnknownWidthAt words bits script k
@@ -101,12 +103,12 @@ module _ (words : Plan) (script : List ℕ) (bits : ℕ) (never : NeverUnknownWi
   never-so : (o : Options) → AreOptionsAt words bits o → (qs : List (Problem × Bool)) → HasSession o.bound qs script → (name : List ℕ) (tail : Course) → CanSolve qs o name tail →
       (rest : List ℕ) → tail.answer ≡ unknown_width_word ++ rest → ⊥
   never-so o is qs also name tail can rest e =
-      let s : Loosenings = loosenings_for (length qs) o in
+      let s : Loosenings = in_version can.2.version (loosenings_of o) in
       let x = one_problem o.bound script single qs also in
       let accepts = subst (λ (ys : List (Problem × Bool)). AreAccepted ys o.bound can.0 s can.1) x.only can.2.accepted in
       let y = one_value x.problem x.extends o.bound can.0 s can.1 accepts in
       never o is qs also can.0 can.1 can.2 x.problem x.extends y.value (ap (λ (ys : List (Problem × Bool)). slice_get ys 0) x.only) (ap (λ (vs : List Value). slice_get vs 0) y.only) rest
-      (sym (texts_one o.budget s qs can.1 x.problem x.extends y.value x.only y.only) ∙ sym (ap (λ (c : Course). c.answer) can.3) ∙ e)
+      (sym (texts_one o.budget (loosenings_of o) qs can.1 x.problem x.extends y.value x.only y.only) ∙ sym (ap (λ (c : Course). c.answer) can.3) ∙ e)
 
   never-by : (asked : Solve) → AreOptionsAt words bits asked.options → (f : Option ScriptFault) (tail : Course) →
       CanBy f (OfSession asked.options.bound script (λ qs. CanSolve qs asked.options asked.cert)) tail → (rest : List ℕ) → tail.answer ≡ unknown_width_word ++ rest → ⊥

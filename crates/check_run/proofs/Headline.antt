@@ -1,32 +1,33 @@
 -- What the answers of a run say of its script.
-use Rattle.std.proofs.Common.{◌≡◌, ◌⊎◌, inl, inr, ℕ, List, [], ◌∷◌, ◌++◌, Bool, length, Option, Some, None, refl, ap, sym, subst, ◌∙◌, append-nil}
+use Rattle.std.proofs.Common.{◌≡◌, ◌⊎◌, inl, inr, ℕ, List, [], ◌∷◌, ◌++◌, Bool, length, Option, Some, None, IsTrue, refl, ap, sym, subst, ◌∙◌, append-nil}
 use Rattle.desk.specs.declared.desk.Port.TheVariants.{CertIn}
 use Rattle.desk.specs.Sight.{Sight}
 use Rattle.command_line.specs.declared.request.Options.{Options}
 use Rattle.command_line.specs.Words.{Solve, Minimize, Check, Upgrade, Demo, Plan, Command, solve, minimize, check, demo, upgrade, plan, resume, join}
 use Rattle.gen_script.specs.Demo.{demo_script}
 use Rattle.poly_graph.specs.Problem.{Problem}
-use Rattle.cover_model.specs.State.{Loosenings}
-use Rattle.cert_model.specs.Due.{Standing, Value, at_point, left_open}
+use Rattle.cover_model.specs.State.{Loosenings, in_version}
+use Rattle.cert_model.specs.Due.{CertFault, Standing, Value, at_point, left_open}
 use Rattle.cert_model.specs.Accepted.{accepted, refused, IsAccepted}
-use Rattle.cert_model.specs.AnswerText.{solve_text, check_text, least_text, unsat_text, has_open}
-use Rattle.cert_model.specs.Least.{Least, GoalVerdict, plain, least, goal_verdict}
+use Rattle.cert_model.specs.AnswerText.{solve_text, check_text, least_text, unsat_text, verdict_text, has_open}
+use Rattle.cert_model.specs.Least.{Least, GoalVerdict, plain, least, goal_verdict, is_lines_version}
 use Rattle.goal_limit.specs.Limits.{has_room}
 use Rattle.cert_model.proofs.PlainGoal.{plain_accepted}
 use Rattle.cert_model.specs.Session.{AreAccepted, SessionVerdict, one_verdict, session_verdict}
+use Rattle.cert_upgrade.specs.Upgraded.{upgraded}
 use Rattle.headline.proofs.Headline.{unsat_is}
 use Rattle.headline.proofs.Least.{lower_means, upper_means}
 use Rattle.script_fault.specs.declared.fault.ScriptFault.{ScriptFault}
 use Rattle.script_forms.specs.Atoms.{goal_atom}
 use Rattle.script_reading.specs.Faults.{script_fault, session_fault}
 use Rattle.script_reading.specs.Goals.{goal_in}
-use Rattle.script_reading.specs.Session.{HasSession}
+use Rattle.script_reading.specs.Session.{HasSession, asked_in}
 use Rattle.check_run.specs.declared.status.Status.{Status}
 use Rattle.check_run.specs.declared.status.Status.TheVariants.{Answered, CertRefused}
 use Rattle.script_reading.specs.Reader.{commands_of, HasProblem, IsBuilt}
-use Rattle.check_run.specs.Answer.{demo_text, loosenings_for, loosenings_of, solve_texts}
+use Rattle.check_run.specs.Answer.{demo_text, is_answer_version, loosenings_of}
 use Rattle.check_run.specs.Course.{Course, behind, appended}
-use Rattle.check_run.specs.Can.{CanSolve, CanCheck, CanUpgrade, CanUpgradeBy, CanPlan, CanBy, OfProblem, OfSession, check_texts, goal_course, verdict_course}
+use Rattle.check_run.specs.Can.{CanSolve, CanCheck, CanUpgrade, CanUpgradeBy, CanUpgradeFor, CanUpgradeOfGoal, CanPlan, CanBy, OfProblem, OfSession, check_texts, goal_course, verdict_course}
 use Rattle.check_run.specs.Minimized.{CanMinimize, CanTellLeast, Cause, IsLeastAnswer, near, spent, narrow, no_limit, minimize_text}
 use Rattle.check_run.specs.Run.{Run, HasCourse, HasInput, IsShown}
 use Rattle.check_run.proofs.Shown.{status_is_shown}
@@ -38,7 +39,8 @@ use Rattle.check_run.proofs.Means.{values_true}
 use Rattle.check_run.proofs.Resumes.{value-so, resume-so, resume-unsat, resume-delta, resume-refused}
 use Rattle.check_run.proofs.Apart.{apart}
 use Rattle.check_run.proofs.Single.{goal_has_one, goal_is, one_problem, one_value}
-use Rattle.check_run.specs.Headline.{IsWritten, IsSolved, IsConfirmed, IsConfirmedLeast, IsLeast, IsNoLeast, IsDemonstrated, IsTrueAnswer, AnswersAreTrue, HasOneCheck, IsUnsat, IsTrueUnsat, UnsatIsTrue, IsTrueDeltaSat, DeltaSatIsTrue, IsRefusedCert, IsRefusedForGoal, IsTrueRefusal, RefusalIsTrue, IsUpgraded, IsTrueUpgrade, UpgradeIsTrue, IsPlanned, IsTruePlan, PlanIsTrue, delta_sat_word, unsat_word, confirmed_unsat_word, confirmed_delta_sat_word}
+use Rattle.check_run.proofs.Versions.{value_again, values_again}
+use Rattle.check_run.specs.Headline.{IsWritten, IsSolved, IsConfirmed, IsConfirmedLeast, IsLeast, IsNoLeast, IsDemonstrated, IsTrueAnswer, AnswersAreTrue, HasOneCheck, IsUnsat, IsTrueUnsat, UnsatIsTrue, IsTrueDeltaSat, DeltaSatIsTrue, IsRefusedCert, IsRefusedForGoal, IsTrueRefusal, RefusalIsTrue, IsUpgraded, IsUpgradedLeast, IsTrueUpgrade, UpgradeIsTrue, IsPlanned, IsTruePlan, PlanIsTrue, delta_sat_word, unsat_word, confirmed_unsat_word, confirmed_delta_sat_word}
 
 -- ---- the courses of a run that answers
 
@@ -69,7 +71,8 @@ solve-so words script cert_in parts old new (course, can, status, went) =
       written = went.cert ∙ ap (λ (c : Course). appended old.cert_out c.cert) can.2 ∙ ap (λ (c : Course). appended old.cert_out c.cert) so.3;
       answers = so.2;
       answer = went.answer ∙ ap (λ (c : Course). appended old.answer c.answer) can.2 ∙ ap (λ (c : Course). appended old.answer c.answer) so.3;
-      say = values_true o.bound script on.ps on.has so.0 (loosenings_for (length on.ps) o) so.1 so.2.accepted;
+      say = values_again o.bound so.2.version (loosenings_of o) (asked_in o.bound script) so.1
+          (values_true o.bound script on.ps on.has so.0 (in_version so.2.version (loosenings_of o)) so.1 so.2.accepted);
     }
 
 -- of a script with one check
@@ -79,36 +82,42 @@ record Solved-one (o : Options) (script : List ℕ) (old new : Sight) : Type 0 w
   cert : List ℕ
   value : Value
   written : new.cert_out ≡ appended old.cert_out cert
-  accepts : IsAccepted p o.bound cert (loosenings_of o) value
+  version : ℕ
+  is_version : IsTrue (is_lines_version version)
+  accepts : IsAccepted p o.bound cert (in_version version (loosenings_of o)) value
   answer : new.answer ≡ appended old.answer (solve_text p o.budget (loosenings_of o) value)
 
 solved-one : (o : Options) (script : List ℕ) (old new : Sight) → HasOneCheck script → IsSolved o script old new → Solved-one o script old new
 solved-one o script old new single so =
     let x = one_problem o.bound script single so.problems so.session in
-    let few : loosenings_for (length so.problems) o ≡ loosenings_of o = ap (λ (ys : List (Problem × Bool)). loosenings_for (length ys) o) x.only in
-    let accepts = subst (λ (s : Loosenings). AreAccepted ((x.problem, x.extends) ∷ []) o.bound so.cert s so.values) few
-    (subst (λ (ys : List (Problem × Bool)). AreAccepted ys o.bound so.cert (loosenings_for (length so.problems) o) so.values) x.only so.answers.accepted) in
-    let y = one_value x.problem x.extends o.bound so.cert (loosenings_of o) so.values accepts in
+    let v : ℕ = so.answers.version in
+    let s : Loosenings = in_version v (loosenings_of o) in
+    let accepts = subst (λ (ys : List (Problem × Bool)). AreAccepted ys o.bound so.cert s so.values) x.only so.answers.accepted in
+    let y = one_value x.problem x.extends o.bound so.cert s so.values accepts in
     record {
       p = x.problem;
       built = x.built;
       cert = so.cert;
       value = y.value;
       written = so.written;
+      version = v;
+      is_version = subst (λ (ys : List (Problem × Bool)). IsTrue (is_answer_version (length ys) v)) x.only so.answers.is_version;
       accepts = y.accepts;
-      answer = so.answer ∙ ap (appended old.answer) (ap (λ (s : Loosenings). solve_texts o.budget s so.problems so.values) few ∙ texts_one o.budget (loosenings_of o) so.problems so.values x.problem x.extends y.value x.only y.only);
+      answer = so.answer ∙ ap (appended old.answer) (texts_one o.budget (loosenings_of o) so.problems so.values x.problem x.extends y.value x.only y.only);
     }
 
 -- ---- unsat
 
-unsat-so : (o : Options) (script : List ℕ) (p : Problem) (old new : Sight) (cert : List ℕ) → IsBuilt o.bound script p → new.cert_out ≡ appended old.cert_out cert → IsAccepted p o.bound cert (loosenings_of o) (left_open []) →
-    IsUnsat o script old new
-unsat-so o script p old new cert built written accepts = record {
-  no_point = unsat_is o.bound (commands_of o.bound script) p built.whole built.problem cert (loosenings_of o) accepts;
+unsat-so : (o : Options) (script : List ℕ) (p : Problem) (old new : Sight) (cert : List ℕ) → IsBuilt o.bound script p → new.cert_out ≡ appended old.cert_out cert → (v : ℕ) → IsTrue (is_lines_version v) →
+    IsAccepted p o.bound cert (in_version v (loosenings_of o)) (left_open []) → IsUnsat o script old new
+unsat-so o script p old new cert built written v is accepts = record {
+  no_point = unsat_is o.bound (commands_of o.bound script) p built.whole built.problem cert (in_version v (loosenings_of o)) accepts;
   problem = p;
   built = built;
   cert = cert;
   written = written;
+  version = v;
+  is_version = is;
   accepted = accepts;
 }
 
@@ -118,7 +127,8 @@ solve-unsat words script cert_in parts old new shows single wrote =
     let s : Loosenings = loosenings_of o in
     let so = solved-one o script old new single (solve-so words script cert_in parts old new shows) in
     let text : unsat_text s ≡ solve_text so.p o.budget s so.value = written-is old.answer new.answer (unsat_text s) (solve_text so.p o.budget s so.value) wrote so.answer in
-    unsat-so o script so.p old new so.cert so.built so.written (subst (λ (v : Value). IsAccepted so.p o.bound so.cert s v) (says-unsat so.p s o.budget so.value text) so.accepts)
+    unsat-so o script so.p old new so.cert so.built so.written so.version so.is_version
+    (subst (λ (v : Value). IsAccepted so.p o.bound so.cert (in_version so.version s) v) (says-unsat so.p s o.budget so.value text) so.accepts)
 
 -- ---- the answers of demo
 
@@ -133,7 +143,8 @@ demo-so words script cert_in parts old new (course, can, status, went) =
       written = went.cert ∙ ap (λ (c : Course). appended old.cert_out c.cert) so.3;
       answers = so.2;
       answer = went.answer ∙ ap (λ (c : Course). appended old.answer c.answer) so.3;
-      say = value-so words.options.bound (demo_script words.seed words.size) can.0 so.0 (loosenings_of words.options) so.1 can.1 so.2.accepted;
+      say = value_again words.options.bound so.2.version (loosenings_of words.options) (commands_of words.options.bound (demo_script words.seed words.size)) so.1
+          (value-so words.options.bound (demo_script words.seed words.size) can.0 so.0 (in_version so.2.version (loosenings_of words.options)) so.1 can.1 so.2.accepted);
     }
 
 demo-unsat : (words : Demo) (script cert_in : List ℕ) (parts : List (List ℕ)) (old new : Sight) → IsShown (Some (demo words)) script cert_in parts old new Answered → IsTrueUnsat (Some (demo words)) script cert_in parts old new
@@ -144,7 +155,8 @@ demo-unsat words script cert_in parts old new shows bytes atoms wrote =
     let told : List ℕ = solve_text so.problem o.budget (loosenings_of o) so.value in
     let text = written-is old.answer new.answer (demo_text bytes atoms unsat_word) (demo_text (length made) (length so.problem.atoms) told) wrote so.answer in
     let none = demo_says_unsat bytes atoms (length made) (length so.problem.atoms) so.problem (loosenings_of o) o.budget so.value text in
-    unsat-so o made so.problem old new so.cert so.built so.written (subst (λ (v : Value). IsAccepted so.problem o.bound so.cert (loosenings_of o) v) none so.answers.accepted)
+    unsat-so o made so.problem old new so.cert so.built so.written so.answers.version so.answers.is_version
+    (subst (λ (v : Value). IsAccepted so.problem o.bound so.cert (in_version so.answers.version (loosenings_of o)) v) none so.answers.accepted)
 
 demo-delta : (words : Demo) (script cert_in : List ℕ) (parts : List (List ℕ)) (old new : Sight) → IsShown (Some (demo words)) script cert_in parts old new Answered → IsTrueDeltaSat (Some (demo words)) script cert_in parts old new
 demo-delta words script cert_in parts old new shows bytes atoms wrote =
@@ -154,10 +166,13 @@ demo-delta words script cert_in parts old new shows bytes atoms wrote =
     let told : List ℕ = solve_text so.problem o.budget (loosenings_of o) so.value in
     let text = written-is old.answer new.answer (demo_text bytes atoms delta_sat_word) (demo_text (length made) (length so.problem.atoms) told) wrote so.answer in
     let point = demo_says_delta_sat bytes atoms (length made) (length so.problem.atoms) so.problem (loosenings_of o) o.budget so.value text in
-    let accepts = subst (λ (v : Value). IsAccepted so.problem o.bound so.cert (loosenings_of o) v) point.1 so.answers.accepted in (
+    let s : Loosenings = in_version so.answers.version (loosenings_of o) in
+    let accepts = subst (λ (v : Value). IsAccepted so.problem o.bound so.cert s v) point.1 so.answers.accepted in (
       point.0,
+      so.answers.version,
+      so.answers.is_version,
       record {
-        point = delta-so o.bound made so.problem so.cert (loosenings_of o) point.0 so.built accepts;
+        point = delta-so o.bound made so.problem so.cert s point.0 so.built accepts;
         problem = so.problem;
         built = so.built;
         cert = so.cert;
@@ -300,7 +315,7 @@ least-so : (words : Minimize) (script : List ℕ) (old new : Sight) (p : Problem
     new.cert_out ≡ appended old.cert_out cert → new.answer ≡ appended old.answer (minimize_text p g words.options.budget cause x) → IsLeast words script old new
 least-so words script old new p has g is cert cause x answers written answer =
     let b : Option ℕ = words.options.bound in
-    let s : Loosenings = loosenings_of words.options in
+    let s : Loosenings = in_version answers.version (loosenings_of words.options) in
     let built = has.built in
     let h = upper_means b (commands_of b script) p built.whole built.problem g is (has_room p) cert s x answers.accepted answers.point answers.has_point in
     record {
@@ -330,7 +345,8 @@ minimize-told words script old new p has g is course (inl (cert, left, answers, 
       answers = answers;
       written = written ∙ ap (λ (c : Course). appended old.cert_out c.cert) e;
       answer = answer ∙ ap (λ (c : Course). appended old.answer c.answer) e;
-      say = value-so words.options.bound script p cert (loosenings_of words.options) (left_open left) has.built answers.accepted;
+      say = value_again words.options.bound answers.version (loosenings_of words.options) (commands_of words.options.bound script) (left_open left)
+          (value-so words.options.bound script p cert (in_version answers.version (loosenings_of words.options)) (left_open left) has.built answers.accepted);
     })
 minimize-told words script old new p has g is course (inr (cert, cause, x, answers, e)) written answer =
     inl (least-so words script old new p has g is cert cause x answers (written ∙ ap (λ (c : Course). appended old.cert_out c.cert) e) (answer ∙ ap (λ (c : Course). appended old.answer c.answer) e))
@@ -360,9 +376,10 @@ bounds-not-unsat p g budget narrow x rest e = apart _ _ 2 e refl
 bounds-not-unsat p g budget no_limit x rest e = apart _ _ 2 e refl
 
 unsat-of-left : (words : Minimize) (script : List ℕ) (old new : Sight) (p : Problem) → IsBuilt words.options.bound script p → (cert : List ℕ) (left : List Standing) → new.cert_out ≡ appended old.cert_out cert →
-    IsAccepted p words.options.bound cert (loosenings_of words.options) (left_open left) → (rest : List ℕ) → unsat_word ++ rest ≡ solve_text p words.options.budget (loosenings_of words.options) (left_open left) → IsUnsat words.options script old new
-unsat-of-left words script old new p built cert [] written accepts rest e = unsat-so words.options script p old new cert built written accepts
-unsat-of-left words script old new p built cert (x ∷ left) written accepts rest e =
+    (v : ℕ) → IsTrue (is_lines_version v) → IsAccepted p words.options.bound cert (in_version v (loosenings_of words.options)) (left_open left) →
+    (rest : List ℕ) → unsat_word ++ rest ≡ solve_text p words.options.budget (loosenings_of words.options) (left_open left) → IsUnsat words.options script old new
+unsat-of-left words script old new p built cert [] written v is accepts rest e = unsat-so words.options script p old new cert built written v is accepts
+unsat-of-left words script old new p built cert (x ∷ left) written v is accepts rest e =
     absurd (apart-left p (loosenings_of words.options) words.options.budget x left (unsat_word ++ rest) 2 e refl (λ j. refl) (has_open (x ∷ left)) refl)
 
 minimize-unsat-of : (words : Minimize) (script : List ℕ) (old new : Sight) → IsLeast words script old new ⊎ IsNoLeast words script old new → (rest : List ℕ) → IsWritten (unsat_word ++ rest) old new → IsUnsat words.options script old new
@@ -371,7 +388,7 @@ minimize-unsat-of words script old new (inl so) rest wrote =
     absurd (bounds-not-unsat so.problem so.goal words.options.budget so.cause so.value rest (written-is old.answer new.answer (unsat_word ++ rest) text wrote so.answer))
 minimize-unsat-of words script old new (inr so) rest wrote =
     let text : List ℕ = solve_text so.problem words.options.budget (loosenings_of words.options) (left_open so.left) in
-    unsat-of-left words script old new so.problem so.has.built so.cert so.left so.written so.answers.accepted rest (written-is old.answer new.answer (unsat_word ++ rest) text wrote so.answer)
+    unsat-of-left words script old new so.problem so.has.built so.cert so.left so.written so.answers.version so.answers.is_version so.answers.accepted rest (written-is old.answer new.answer (unsat_word ++ rest) text wrote so.answer)
 
 minimize-unsat : (words : Minimize) (script cert_in : List ℕ) (parts : List (List ℕ)) (old new : Sight) → IsShown (Some (minimize words)) script cert_in parts old new Answered → IsTrueUnsat (Some (minimize words)) script cert_in parts old new
 minimize-unsat words script cert_in parts old new shows rest wrote = minimize-unsat-of words script old new (minimize-so words script cert_in parts old new shows) rest wrote
@@ -398,9 +415,10 @@ solve-delta words script cert_in parts old new shows single rest wrote =
     let so = solved-one o script old new single (solve-so words script cert_in parts old new shows) in
     let text : delta_sat_word ++ rest ≡ solve_text so.p o.budget s so.value = written-is old.answer new.answer (delta_sat_word ++ rest) (solve_text so.p o.budget s so.value) wrote so.answer in
     let point = says-delta-sat so.p s o.budget rest so.value text in
-    let P : Value → Type 0 = λ v. IsAccepted so.p o.bound so.cert s v in
+    let P : Value → Type 0 = λ v. IsAccepted so.p o.bound so.cert (in_version so.version s) v in
     let W : List ℕ → Type 0 = λ t. IsWritten t old new in
-    (so.p, point.0, so.built, subst W (text ∙ ap (λ (v : Value). solve_text so.p o.budget s v) point.1) wrote, delta-so o.bound script so.p so.cert s point.0 so.built (subst P point.1 so.accepts))
+    let near = delta-so o.bound script so.p so.cert (in_version so.version s) point.0 so.built (subst P point.1 so.accepts) in
+    (so.p, point.0, so.built, subst W (text ∙ ap (λ (v : Value). solve_text so.p o.budget s v) point.1) wrote, record { satisfies = near.satisfies; near = near.near })
 
 check-delta : (words : Check) (script cert_in : List ℕ) (parts : List (List ℕ)) (old new : Sight) → IsShown (Some (check words)) script cert_in parts old new Answered → IsTrueDeltaSat (Some (check words)) script cert_in parts old new
 check-delta words script cert_in parts old new shows single rest wrote =
@@ -448,11 +466,9 @@ refused-by words script cert_in old new ps course (refused f n) has e can status
 }
 
 -- of a script with a goal
-goal-refused : (words : Check) (script cert_in : List ℕ) (old new : Sight) (g : ℕ) → goal_in words.bound script ≡ Some g → (p : Problem) → IsBuilt words.bound script p → (course : Course) (v : GoalVerdict) → goal_verdict p g (has_room p) words.bound cert_in ≡ v →
-    course ≡ behind ((CertIn, words.cert) ∷ []) (goal_course p g v) → course.status ≡ CertRefused → new.answer ≡ appended old.answer course.answer → IsRefusedForGoal words.bound script cert_in old new
-goal-refused words script cert_in old new g is p built course (accepted s (plain v)) e can status wrote = absurd (answered-not course.status (ap (λ (c : Course). c.status) can) status)
-goal-refused words script cert_in old new g is p built course (accepted s (least x)) e can status wrote = absurd (answered-not course.status (ap (λ (c : Course). c.status) can) status)
-goal-refused words script cert_in old new g is p built course (refused f n) e can status wrote = record {
+goal-refused : (bound : Option ℕ) (script cert_in : List ℕ) (old new : Sight) (g : ℕ) → goal_in bound script ≡ Some g → (p : Problem) → IsBuilt bound script p → (course : Course) (f : CertFault) (n : ℕ) → goal_verdict p g (has_room p) bound cert_in ≡ refused f n →
+    course.answer ≡ verdict_text (refused f n) → new.answer ≡ appended old.answer course.answer → IsRefusedForGoal bound script cert_in old new
+goal-refused bound script cert_in old new g is p built course f n e can wrote = record {
   problem = p;
   built = built;
   goal = g;
@@ -460,8 +476,15 @@ goal-refused words script cert_in old new g is p built course (refused f n) e ca
   fault = f;
   line = n;
   refuses = e;
-  written = wrote ∙ ap (λ (c : Course). appended old.answer c.answer) can;
+  written = wrote ∙ ap (appended old.answer) can;
 }
+
+goal-refused-by : (words : Check) (script cert_in : List ℕ) (old new : Sight) (g : ℕ) → goal_in words.bound script ≡ Some g → (p : Problem) → IsBuilt words.bound script p → (course : Course) (v : GoalVerdict) → goal_verdict p g (has_room p) words.bound cert_in ≡ v →
+    course ≡ behind ((CertIn, words.cert) ∷ []) (goal_course p g v) → course.status ≡ CertRefused → new.answer ≡ appended old.answer course.answer → IsRefusedForGoal words.bound script cert_in old new
+goal-refused-by words script cert_in old new g is p built course (accepted s (plain v)) e can status wrote = absurd (answered-not course.status (ap (λ (c : Course). c.status) can) status)
+goal-refused-by words script cert_in old new g is p built course (accepted s (least x)) e can status wrote = absurd (answered-not course.status (ap (λ (c : Course). c.status) can) status)
+goal-refused-by words script cert_in old new g is p built course (refused f n) e can status wrote =
+    goal-refused words.bound script cert_in old new g is p built course f n e (ap (λ (c : Course). c.answer) can) wrote
 
 refused-of : (words : Check) (script cert_in : List ℕ) (old new : Sight) (goal : Option ℕ) → goal_in words.bound script ≡ goal → (ps : List (Problem × Bool)) → HasSession words.bound ps script → (course : Course) → CanCheck goal ps words.bound words.cert cert_in course →
     course.status ≡ CertRefused → new.answer ≡ appended old.answer course.answer → IsRefusedCert words.bound script cert_in old new ⊎ IsRefusedForGoal words.bound script cert_in old new
@@ -469,7 +492,7 @@ refused-of words script cert_in old new None is ps has course can status wrote =
 refused-of words script cert_in old new (Some g) is ps has course can status wrote =
     let x = one_problem words.bound script (goal_has_one words.bound script g is) ps has in
     let so : CanCheck (Some g) ((x.problem, x.extends) ∷ []) words.bound words.cert cert_in course = subst (λ (ys : List (Problem × Bool)). CanCheck (Some g) ys words.bound words.cert cert_in course) x.only can in
-    inr (goal-refused words script cert_in old new g is x.problem x.built course (goal_verdict x.problem g (has_room x.problem) words.bound cert_in) refl so status wrote)
+    inr (goal-refused-by words script cert_in old new g is x.problem x.built course (goal_verdict x.problem g (has_room x.problem) words.bound cert_in) refl so status wrote)
 
 check-refused : (words : Check) (script cert_in : List ℕ) (old new : Sight) (tail : Course) (f : Option ScriptFault) → CanBy f (OfSession words.bound script (λ ps. CanCheck (goal_in words.bound script) ps words.bound words.cert cert_in)) tail
     → tail.status ≡ CertRefused → new.answer ≡ appended old.answer tail.answer → IsRefusedCert words.bound script cert_in old new ⊎ IsRefusedForGoal words.bound script cert_in old new
@@ -481,16 +504,33 @@ upgrade-refused-by : (words : Upgrade) (script cert_in : List ℕ) (parts : List
     → tail.status ≡ CertRefused → new.answer ≡ appended old.answer tail.answer → new.cert_out ≡ appended old.cert_out tail.cert → IsTrueRefusal (Some (upgrade words)) script cert_in parts old new
 upgrade-refused-by words script cert_in parts old new ps tail (accepted s values) has e can status wrote none = absurd (answered-not tail.status (ap (λ (c : Course). c.status) can.1) status)
 upgrade-refused-by words script cert_in parts old new ps tail (refused f n) has e can status wrote none = (
-  record { problems = ps; session = has; fault = f; line = n; refuses = e; written = wrote ∙ ap (λ (c : Course). appended old.answer c.answer) can },
+  inl (record { problems = ps; session = has; fault = f; line = n; refuses = e; written = wrote ∙ ap (λ (c : Course). appended old.answer c.answer) can }),
   none ∙ ap (λ (c : Course). appended old.cert_out c.cert) can,
 )
 
-upgrade-refused : (words : Upgrade) (script cert_in : List ℕ) (parts : List (List ℕ)) (old new : Sight) (tail : Course) (f : Option ScriptFault) → CanBy f (OfSession words.bound script (λ ps. CanUpgrade ps words.bound words.cert words.out cert_in)) tail
+upgrade-refused-goal : (words : Upgrade) (script cert_in : List ℕ) (parts : List (List ℕ)) (old new : Sight) (g : ℕ) → goal_in words.bound script ≡ Some g → (p : Problem) → IsBuilt words.bound script p → (tail : Course) (v : GoalVerdict) → goal_verdict p g (has_room p) words.bound cert_in ≡ v
+    → CanUpgradeOfGoal v p g words.bound words.out cert_in tail → tail.status ≡ CertRefused → new.answer ≡ appended old.answer tail.answer → new.cert_out ≡ appended old.cert_out tail.cert → IsTrueRefusal (Some (upgrade words)) script cert_in parts old new
+upgrade-refused-goal words script cert_in parts old new g is p built tail (accepted s v) e can status wrote none = absurd (answered-not tail.status (ap (λ (c : Course). c.status) can.1) status)
+upgrade-refused-goal words script cert_in parts old new g is p built tail (refused f n) e can status wrote none = (
+  inr (goal-refused words.bound script cert_in old new g is p built tail f n e (ap (λ (c : Course). c.answer) can) wrote),
+  none ∙ ap (λ (c : Course). appended old.cert_out c.cert) can,
+)
+
+upgrade-refused-for : (words : Upgrade) (script cert_in : List ℕ) (parts : List (List ℕ)) (old new : Sight) (goal : Option ℕ) → goal_in words.bound script ≡ goal → (ps : List (Problem × Bool)) → HasSession words.bound ps script → (tail : Course) → CanUpgradeFor goal ps words.bound words.out cert_in tail
+    → tail.status ≡ CertRefused → new.answer ≡ appended old.answer tail.answer → new.cert_out ≡ appended old.cert_out tail.cert → IsTrueRefusal (Some (upgrade words)) script cert_in parts old new
+upgrade-refused-for words script cert_in parts old new None is ps has tail can status wrote none =
+    upgrade-refused-by words script cert_in parts old new ps tail (session_verdict ps words.bound cert_in) has refl can status wrote none
+upgrade-refused-for words script cert_in parts old new (Some g) is ps has tail can status wrote none =
+    let x = one_problem words.bound script (goal_has_one words.bound script g is) ps has in
+    let so : CanUpgradeFor (Some g) ((x.problem, x.extends) ∷ []) words.bound words.out cert_in tail = subst (λ (ys : List (Problem × Bool)). CanUpgradeFor (Some g) ys words.bound words.out cert_in tail) x.only can in
+    upgrade-refused-goal words script cert_in parts old new g is x.problem x.built tail (goal_verdict x.problem g (has_room x.problem) words.bound cert_in) refl so status wrote none
+
+upgrade-refused : (words : Upgrade) (script cert_in : List ℕ) (parts : List (List ℕ)) (old new : Sight) (tail : Course) (f : Option ScriptFault) → CanBy f (OfSession words.bound script (λ ps. CanUpgrade (goal_in words.bound script) ps words.bound words.cert words.out cert_in)) tail
     → tail.status ≡ CertRefused → new.answer ≡ appended old.answer tail.answer → new.cert_out ≡ appended old.cert_out tail.cert → IsTrueRefusal (Some (upgrade words)) script cert_in parts old new
 upgrade-refused words script cert_in parts old new tail (Some f) can status wrote none = absurd (script-refused-not tail.status (ap (λ (c : Course). c.status) can) status)
 upgrade-refused words script cert_in parts old new tail None can status wrote none =
     let is = can.2 in
-    upgrade-refused-by words script cert_in parts old new can.0 is.0 (session_verdict can.0 words.bound cert_in) can.1 refl is.1 (sym (ap (λ (c : Course). c.status) is.2) ∙ status)
+    upgrade-refused-for words script cert_in parts old new (goal_in words.bound script) refl can.0 can.1 is.0 is.1 (sym (ap (λ (c : Course). c.status) is.2) ∙ status)
     (wrote ∙ ap (λ (c : Course). appended old.answer c.answer) is.2) (none ∙ ap (λ (c : Course). appended old.cert_out c.cert) is.2)
 
 refusal-true : (command : Option Command) (script cert_in : List ℕ) (parts : List (List ℕ)) (old new : Sight) → IsShown command script cert_in parts old new CertRefused → IsTrueRefusal command script cert_in parts old new
@@ -525,10 +565,48 @@ upgraded-by words script cert_in old new ps tail (accepted s values) has e can s
 }
 upgraded-by words script cert_in old new ps tail (refused f n) has e can status wrote = absurd (certificate-refused-not tail.status (ap (λ (c : Course). c.status) can) status)
 
-upgraded-of : (words : Upgrade) (script cert_in : List ℕ) (old new : Sight) (ps : List (Problem × Bool)) (tail : Course) → HasSession words.bound ps script → CanUpgrade ps words.bound words.cert words.out cert_in tail
-    → tail.status ≡ Answered → new.cert_out ≡ appended old.cert_out tail.cert → IsUpgraded words.bound script cert_in old new
+-- of a script with a goal
+goal-upgraded : (words : Upgrade) (script cert_in : List ℕ) (old new : Sight) (g : ℕ) → goal_in words.bound script ≡ Some g → (p : Problem) (e : Bool) → HasSession words.bound ((p, e) ∷ []) script → IsBuilt words.bound script p → (tail : Course) (v : GoalVerdict)
+    → goal_verdict p g (has_room p) words.bound cert_in ≡ v → CanUpgradeOfGoal v p g words.bound words.out cert_in tail → tail.status ≡ Answered → new.cert_out ≡ appended old.cert_out tail.cert
+    → IsUpgraded words.bound script cert_in old new ⊎ IsUpgradedLeast words.bound script cert_in old new
+goal-upgraded words script cert_in old new g is p e has built tail (accepted s (plain v)) accepts can status wrote =
+    inl (record {
+      problems = (p, e) ∷ [];
+      session = has;
+      loosenings = s;
+      values = v ∷ [];
+      accepted = ap one_verdict (plain_accepted p g (has_room p) words.bound cert_in s v accepts);
+      written = wrote ∙ ap (λ (c : Course). appended old.cert_out c.cert) can.1;
+      again = ap one_verdict (plain_accepted p g (has_room p) words.bound (upgraded cert_in) (in_version 5 s) v can.0);
+    })
+goal-upgraded words script cert_in old new g is p e has built tail (accepted s (least x)) accepts can status wrote =
+    inr (record {
+      problem = p;
+      built = built;
+      goal = g;
+      is_goal = is;
+      loosenings = s;
+      value = x;
+      accepted = accepts;
+      written = wrote ∙ ap (λ (c : Course). appended old.cert_out c.cert) can.1;
+      again = can.0;
+    })
+goal-upgraded words script cert_in old new g is p e has built tail (refused f n) accepts can status wrote = absurd (certificate-refused-not tail.status (ap (λ (c : Course). c.status) can) status)
+
+upgraded-for : (words : Upgrade) (script cert_in : List ℕ) (old new : Sight) (goal : Option ℕ) → goal_in words.bound script ≡ goal → (ps : List (Problem × Bool)) → HasSession words.bound ps script → (tail : Course) → CanUpgradeFor goal ps words.bound words.out cert_in tail
+    → tail.status ≡ Answered → new.cert_out ≡ appended old.cert_out tail.cert → IsUpgraded words.bound script cert_in old new ⊎ IsUpgradedLeast words.bound script cert_in old new
+upgraded-for words script cert_in old new None is ps has tail can status wrote =
+    inl (upgraded-by words script cert_in old new ps tail (session_verdict ps words.bound cert_in) has refl can status wrote)
+upgraded-for words script cert_in old new (Some g) is ps has tail can status wrote =
+    let x = one_problem words.bound script (goal_has_one words.bound script g is) ps has in
+    let so : CanUpgradeFor (Some g) ((x.problem, x.extends) ∷ []) words.bound words.out cert_in tail = subst (λ (ys : List (Problem × Bool)). CanUpgradeFor (Some g) ys words.bound words.out cert_in tail) x.only can in
+    goal-upgraded words script cert_in old new g is x.problem x.extends (subst (λ (ys : List (Problem × Bool)). HasSession words.bound ys script) x.only has) x.built tail
+    (goal_verdict x.problem g (has_room x.problem) words.bound cert_in) refl so status wrote
+
+upgraded-of : (words : Upgrade) (script cert_in : List ℕ) (old new : Sight) (ps : List (Problem × Bool)) (tail : Course) → HasSession words.bound ps script → CanUpgrade (goal_in words.bound script) ps words.bound words.cert words.out cert_in tail
+    → tail.status ≡ Answered → new.cert_out ≡ appended old.cert_out tail.cert → IsUpgraded words.bound script cert_in old new ⊎ IsUpgradedLeast words.bound script cert_in old new
 upgraded-of words script cert_in old new ps tail has can status wrote =
-    upgraded-by words script cert_in old new ps can.0 (session_verdict ps words.bound cert_in) has refl can.1 (sym (ap (λ (c : Course). c.status) can.2) ∙ status)
+    upgraded-for words script cert_in old new (goal_in words.bound script) refl ps has can.0 can.1 (sym (ap (λ (c : Course). c.status) can.2) ∙ status)
     (wrote ∙ ap (λ (c : Course). appended old.cert_out c.cert) can.2)
 
 upgrade-true : (command : Option Command) (script cert_in : List ℕ) (parts : List (List ℕ)) (old new : Sight) → IsShown command script cert_in parts old new Answered → IsTrueUpgrade command script cert_in parts old new
@@ -543,7 +621,7 @@ upgrade-true (Some (join words)) script cert_in parts old new shows = tt
 upgrade-true (Some (upgrade words)) script cert_in parts old new (course, can, status, went) =
     let tail : Course = can.0 in
     let status_is : tail.status ≡ Answered = sym (ap (λ (c : Course). c.status) can.2) ∙ status in
-    let on = goes-on words.bound script (λ ps. CanUpgrade ps words.bound words.cert words.out cert_in) (session_fault words.bound script) tail can.1 status_is in
+    let on = goes-on words.bound script (λ ps. CanUpgrade (goal_in words.bound script) ps words.bound words.cert words.out cert_in) (session_fault words.bound script) tail can.1 status_is in
     upgraded-of words script cert_in old new on.ps tail on.has on.can status_is (went.cert ∙ ap (λ (c : Course). appended old.cert_out c.cert) can.2)
 
 -- ---- plans

@@ -17,6 +17,7 @@ pub mod Running
 pub mod Starting
 pub mod Shown
 pub mod Verdicts
+pub mod Versions
 pub mod Lines
 pub mod Symbols
 pub mod Texts

@@ -11,7 +11,7 @@ use Rattle.cert_model.proofs.SessionMeans.{session_means}
 use Rattle.script_forms.specs.ProblemOf.{IsProblemOf}
 use Rattle.script_forms.proofs.Box.{box_declared, problem_means}
 use Rattle.headline.proofs.Headline.{near_is}
-use Rattle.smt_script.specs.Levels.{Asked, checks_of}
+use Rattle.smt_script.specs.Levels.{Asked}
 use Rattle.script_reading.specs.Session.{AreBuilt, HasSession, asked_in, carried_in}
 use Rattle.script_reading.proofs.Pairs.{session_goes_on}
 use Rattle.check_run.specs.Headline.{AreTrueValues, IsTrueValue}

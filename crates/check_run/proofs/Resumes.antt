@@ -4,11 +4,10 @@ use Rattle.desk.specs.Sight.{Sight}
 use Rattle.command_line.specs.Words.{Resume, resume}
 use Rattle.poly_graph.specs.Problem.{Problem}
 use Rattle.interval_model.specs.Space.{Space}
-use Rattle.cover_model.specs.State.{Loosenings}
+use Rattle.cover_model.specs.State.{Loosenings, in_version}
 use Rattle.cert_model.specs.Due.{Standing, Value, at_point, left_open}
 use Rattle.cert_model.specs.Accepted.{IsAccepted, Verdict, accepted, refused, verdict}
 use Rattle.cert_model.specs.AnswerText.{unsat_text, delta_sat_text, has_open}
-use Rattle.cert_upgrade.specs.Upgraded.{in_newest}
 use Rattle.cert_resumed.specs.Resumed.{Share, is_own, joined, own_left, others}
 use Rattle.headline.proofs.Headline.{unsat_is}
 use Rattle.script_fault.specs.declared.fault.ScriptFault.{ScriptFault}
@@ -55,23 +54,23 @@ never-delta-sat p budget h s (x ∷ own) n rest e = apart-left p s budget x own 
 
 -- where a certificate goes on, the answer unsat is that of a cover that leaves nothing
 more-unsat : (p : Problem) (b : Option ℕ) (words : Resume) (cert_in cert : List ℕ) (s : Loosenings) (w v : Value) (text rest : List ℕ) → GoesOn p b words cert_in cert s w v text → unsat_word ++ rest ≡ text →
-    (v ≡ left_open []) × (text ≡ unsat_text (in_newest 1 s))
+    (v ≡ left_open []) × (text ≡ unsat_text s)
 more-unsat p b words cert_in cert s (at_point space) v text rest g e = absurd (apart _ _ 0 (e ∙ g.2) refl)
 more-unsat p b words cert_in cert s (left_open []) v text rest g e = (g.1, g.2)
 more-unsat p b words cert_in cert s (left_open (x ∷ left)) v text rest (inl g) e = absurd (apart _ _ 0 (e ∙ g.answer) refl)
 more-unsat p b words cert_in cert s (left_open (x ∷ left)) v text rest (inr g) e =
     let xss = trees_left p b words cert_in cert g.resumed in
-    let u = says-unsat p words.budget (share_of words) (in_newest 1 s) (own_left (share_of words) 0 xss) (others (share_of words) 0 xss) rest (e ∙ g.answer) in
+    let u = says-unsat p words.budget (share_of words) s (own_left (share_of words) 0 xss) (others (share_of words) 0 xss) rest (e ∙ g.answer) in
     (g.value ∙ ap left_open (none-left (share_of words) 0 xss u.0 u.1), sym e ∙ u.2)
 
 -- and delta-sat that of a point
 more-delta-sat : (p : Problem) (b : Option ℕ) (words : Resume) (cert_in cert : List ℕ) (s : Loosenings) (w v : Value) (text rest : List ℕ) → GoesOn p b words cert_in cert s w v text → delta_sat_word ++ rest ≡ text →
-    (space : Space) × (v ≡ at_point space) × (text ≡ delta_sat_text p (in_newest 1 s) space)
+    (space : Space) × (v ≡ at_point space) × (text ≡ delta_sat_text p s space)
 more-delta-sat p b words cert_in cert s (at_point space) v text rest g e = (space, g.1, g.2)
 more-delta-sat p b words cert_in cert s (left_open []) v text rest g e = absurd (apart _ _ 0 (e ∙ g.2) refl)
 more-delta-sat p b words cert_in cert s (left_open (x ∷ left)) v text rest (inl g) e = (g.space, g.value, g.answer)
 more-delta-sat p b words cert_in cert s (left_open (x ∷ left)) v text rest (inr g) e = let xss = trees_left p b words cert_in cert g.resumed in
-    absurd (never-delta-sat p words.budget (share_of words) (in_newest 1 s) (own_left (share_of words) 0 xss) (others (share_of words) 0 xss) rest (e ∙ g.answer))
+    absurd (never-delta-sat p words.budget (share_of words) s (own_left (share_of words) 0 xss) (others (share_of words) 0 xss) rest (e ∙ g.answer))
 
 -- ---- the courses of a run that answers
 
@@ -93,7 +92,7 @@ resumed-by words script cert_in old new p tail (accepted s w) has e can status w
   written = cert ∙ ap (λ (c : Course). appended old.cert_out c.cert) can.3;
   more = can.2;
   answer = wrote ∙ ap (λ (c : Course). appended old.answer c.answer) can.3;
-  say = value-so words.bound script p can.0 (in_newest 1 s) can.2.value has.built can.2.accepted;
+  say = value-so words.bound script p can.0 (in_version can.2.version s) can.2.value has.built can.2.accepted;
 }
 resumed-by words script cert_in old new p tail (refused f n) has e can status wrote cert = absurd (certificate-refused-not tail.status (ap (λ (c : Course). c.status) can) status)
 
@@ -115,7 +114,7 @@ pub resume-unsat : (words : Resume) (script cert_in : List ℕ) (parts : List (L
 resume-unsat words script cert_in parts old new shows rest wrote =
     let so = resume-so words script cert_in parts old new shows in
     let b : Option ℕ = words.bound in
-    let s : Loosenings = in_newest 1 so.loosenings in
+    let s : Loosenings = in_version so.more.version so.loosenings in
     let text : unsat_word ++ rest ≡ so.text = written-is old.answer new.answer (unsat_word ++ rest) so.text wrote so.answer in
     let u = more-unsat so.problem b words cert_in so.cert so.loosenings so.read so.more.value so.text rest so.more.goes_on text in
     let accepts = subst (λ (v : Value). IsAccepted so.problem b so.cert s v) u.0 so.more.accepted in (
@@ -135,7 +134,7 @@ pub resume-delta : (words : Resume) (script cert_in : List ℕ) (parts : List (L
 resume-delta words script cert_in parts old new shows rest wrote =
     let so = resume-so words script cert_in parts old new shows in
     let b : Option ℕ = words.bound in
-    let s : Loosenings = in_newest 1 so.loosenings in
+    let s : Loosenings = in_version so.more.version so.loosenings in
     let text : delta_sat_word ++ rest ≡ so.text = written-is old.answer new.answer (delta_sat_word ++ rest) so.text wrote so.answer in
     let u = more-delta-sat so.problem b words cert_in so.cert so.loosenings so.read so.more.value so.text rest so.more.goes_on text in (
       so.problem,

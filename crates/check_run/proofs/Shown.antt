@@ -17,7 +17,7 @@ use Rattle.goal_limit.specs.Limits.{has_room}
 use Rattle.check_run.specs.declared.status.Status.{Status}
 use Rattle.check_run.specs.declared.status.Status.TheVariants.{Answered, CertRefused, ScriptRefused, Usage, InFailed, OutFailed, NoMemory}
 use Rattle.check_run.specs.Course.{Course, Went, Ends, at_its_end, out_failed, no_memory, RunEnds, on_course, in_failed, draft_failed, no_memory_yet}
-use Rattle.check_run.specs.Can.{CanSolve, CanCheck, CanUpgrade, CanUpgradeBy, CanDemo, CanPlan, CanBy, OfProblem, OfSession, Can, in_starts, check_course, goal_course, verdict_course}
+use Rattle.check_run.specs.Can.{CanSolve, CanCheck, CanUpgrade, CanUpgradeBy, CanUpgradeFor, CanUpgradeOfGoal, CanDemo, CanPlan, CanBy, OfProblem, OfSession, Can, in_starts, check_course, goal_course, verdict_course}
 use Rattle.check_run.specs.Minimized.{CanMinimize, CanTellLeast}
 use Rattle.check_run.specs.Joined.{CanJoin, joins, refuses}
 use Rattle.check_run.specs.Resumed.{CanResume, CanResumeBy}
@@ -61,8 +61,18 @@ said-upgrade-by : (v : SessionVerdict) (ps : List (Problem × Bool)) (bound : Op
 said-upgrade-by (accepted s values) ps bound out cert_in course can = said-same course _ can.1 tt
 said-upgrade-by (refused f n) ps bound out cert_in course can = said-same course _ can tt
 
-said-upgrade : (ps : List (Problem × Bool)) (bound : Option ℕ) (name out cert_in : List ℕ) (course : Course) → CanUpgrade ps bound name out cert_in course → IsSaid course.status
-said-upgrade ps bound name out cert_in course can = said-same course _ can.2 (said-upgrade-by (session_verdict ps bound cert_in) ps bound out cert_in can.0 can.1)
+said-upgrade-goal : (v : GoalVerdict) (p : Problem) (g : ℕ) (bound : Option ℕ) (out cert_in : List ℕ) (course : Course) → CanUpgradeOfGoal v p g bound out cert_in course → IsSaid course.status
+said-upgrade-goal (accepted s v) p g bound out cert_in course can = said-same course _ can.1 tt
+said-upgrade-goal (refused f n) p g bound out cert_in course can = said-same course _ can tt
+
+said-upgrade-for : (goal : Option ℕ) (ps : List (Problem × Bool)) (bound : Option ℕ) (out cert_in : List ℕ) (course : Course) → CanUpgradeFor goal ps bound out cert_in course → IsSaid course.status
+said-upgrade-for None ps bound out cert_in course can = said-upgrade-by (session_verdict ps bound cert_in) ps bound out cert_in course can
+said-upgrade-for (Some g) [] bound out cert_in course can = said-upgrade-by (session_verdict [] bound cert_in) [] bound out cert_in course can
+said-upgrade-for (Some g) ((p, e) ∷ []) bound out cert_in course can = said-upgrade-goal (goal_verdict p g (has_room p) bound cert_in) p g bound out cert_in course can
+said-upgrade-for (Some g) (p ∷ q ∷ ps) bound out cert_in course can = said-upgrade-by (session_verdict (p ∷ q ∷ ps) bound cert_in) (p ∷ q ∷ ps) bound out cert_in course can
+
+said-upgrade : (goal : Option ℕ) (ps : List (Problem × Bool)) (bound : Option ℕ) (name out cert_in : List ℕ) (course : Course) → CanUpgrade goal ps bound name out cert_in course → IsSaid course.status
+said-upgrade goal ps bound name out cert_in course can = said-same course _ can.2 (said-upgrade-for goal ps bound out cert_in can.0 can.1)
 
 said-resume-by : (v : Verdict) (p : Problem) (b : Option ℕ) (words : Resume) (cert_in : List ℕ) (course : Course) → CanResumeBy v p b words cert_in course → IsSaid course.status
 said-resume-by (accepted s w) p b words cert_in course can = said-same course _ can.3 tt
@@ -106,7 +116,8 @@ said (Some (minimize words)) script cert_in parts course can = said-same course 
 said (Some (check words)) script cert_in parts course can = said-same course _ can.2
     (said-by words.bound script (λ ps. CanCheck (goal_in words.bound script) ps words.bound words.cert cert_in) (λ ps c h. said-same c _ h (said-check (goal_in words.bound script) ps words.bound cert_in)) (session_fault words.bound script) can.0 can.1)
 said (Some (upgrade words)) script cert_in parts course can = said-same course _ can.2
-    (said-by words.bound script (λ ps. CanUpgrade ps words.bound words.cert words.out cert_in) (λ ps c h. said-upgrade ps words.bound words.cert words.out cert_in c h) (session_fault words.bound script) can.0 can.1)
+    (said-by words.bound script (λ ps. CanUpgrade (goal_in words.bound script) ps words.bound words.cert words.out cert_in)
+    (λ ps c h. said-upgrade (goal_in words.bound script) ps words.bound words.cert words.out cert_in c h) (session_fault words.bound script) can.0 can.1)
 said (Some (plan words)) script cert_in parts course can = said-same course _ can.2
     (said-by words.bound script (λ ps. CanPlan ps words.delta_bits words.margin_bits) (λ ps c h. said-same c _ h.2 tt) (session_fault words.bound script) can.0 can.1)
 said (Some (resume words)) script cert_in parts course can = said-same course _ can.2 (said-resume words script cert_in (script_fault words.bound script) can.0 can.1)

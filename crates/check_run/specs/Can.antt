@@ -5,16 +5,16 @@ use Rattle.command_line.specs.declared.request.Options.{Options}
 use Rattle.command_line.specs.Words.{Command, Join, solve, minimize, check, demo, upgrade, plan, resume, join}
 use Rattle.gen_script.specs.Demo.{demo_script}
 use Rattle.poly_graph.specs.Problem.{Problem}
-use Rattle.cover_model.specs.State.{Loosenings}
+use Rattle.cover_model.specs.State.{Loosenings, in_version}
 use Rattle.width_plan.specs.Plan as width
 use Rattle.width_plan.specs.Plan.{IsPlan, least_bits, no_atom, no_axis}
 use Rattle.cert_model.specs.Due.{Value}
 use Rattle.cert_model.specs.Accepted.{accepted, refused}
 use Rattle.cert_model.specs.AnswerText.{check_text, goal_text, solve_text, verdict_text}
-use Rattle.cert_model.specs.Least.{GoalVerdict, goal_verdict}
+use Rattle.cert_model.specs.Least.{GoalVerdict, goal_verdict, IsGoalAccepted}
 use Rattle.goal_limit.specs.Limits.{has_room}
 use Rattle.cert_model.specs.Session.{SessionVerdict, AreAccepted, session_verdict}
-use Rattle.cert_upgrade.specs.Upgraded.{in_newest, upgraded}
+use Rattle.cert_upgrade.specs.Upgraded.{upgraded}
 use Rattle.check_run.specs.declared.status.Status.TheVariants.{Answered, CertRefused, ScriptRefused, Usage}
 use Rattle.script_fault.specs.declared.fault.ScriptFault.{ScriptFault}
 use Rattle.check_run.specs.Plans.{least_bits_text, no_atom_text, no_axis_text}
@@ -24,7 +24,7 @@ use Rattle.script_reading.specs.Goals.{goal_in}
 use Rattle.script_forms.specs.Atoms.{goal_atom}
 use Rattle.script_reading.specs.Reader.{IsBuilt, commands_of}
 use Rattle.script_reading.specs.Session.{HasSession}
-use Rattle.check_run.specs.Answer.{demo_text, loosenings_for, loosenings_of, solve_texts, AreAnswers, IsAnswer}
+use Rattle.check_run.specs.Answer.{demo_text, loosenings_of, solve_texts, AreAnswers, IsAnswer}
 use Rattle.check_run.specs.Course.{Start, Course, says, gives, behind}
 use Rattle.check_run.specs.Minimized.{CanMinimize}
 use Rattle.check_run.specs.Joined.{CanJoin, join_starts}
@@ -37,7 +37,7 @@ usage_text = codes "usage fault\n"
 abbrev pub CanSolve : List (Problem × Bool) → Options → List ℕ → Course → Type 0
 CanSolve ps options name course =
     (cert : List ℕ) × (values : List Value) × AreAnswers ps options cert values
-    × (course ≡ gives name cert (solve_texts options.budget (loosenings_for (length ps) options) ps values))
+    × (course ≡ gives name cert (solve_texts options.budget (loosenings_of options) ps values))
 
 -- the answers of check, one after the other
 abbrev pub check_texts : Loosenings → List Value → List ℕ
@@ -67,17 +67,29 @@ CanCheck goal ps bound name cert_in course = course ≡ behind ((CertIn, name) �
 abbrev pub upgraded_text : List ℕ
 upgraded_text = codes "upgraded\n"
 
--- A certificate that is accepted is written in the newest version for so many checks, in which it is accepted with the same values. Another is
--- refused at its first fault, and none is written.
+-- A certificate that is accepted is written in the newest version, in which it is accepted with the same values. Another is refused at its
+-- first fault, and none is written.
 abbrev pub CanUpgradeBy : SessionVerdict → List (Problem × Bool) → Option ℕ → List ℕ → List ℕ → Course → Type 0
 CanUpgradeBy (accepted s values) ps bound out cert_in course =
-    AreAccepted ps bound (upgraded (length ps) cert_in) (in_newest (length ps) s) values × (course ≡ gives out (upgraded (length ps) cert_in) upgraded_text)
+    AreAccepted ps bound (upgraded cert_in) (in_version 5 s) values × (course ≡ gives out (upgraded cert_in) upgraded_text)
 CanUpgradeBy (refused fault line) ps bound out cert_in course = course ≡ verdict_course (refused fault line)
 
+-- the same of a script with one check, whose goal is the term of atom g
+abbrev pub CanUpgradeOfGoal : GoalVerdict → Problem → ℕ → Option ℕ → List ℕ → List ℕ → Course → Type 0
+CanUpgradeOfGoal (accepted s v) p g bound out cert_in course =
+    IsGoalAccepted p g (has_room p) bound (upgraded cert_in) (in_version 5 s) v × (course ≡ gives out (upgraded cert_in) upgraded_text)
+CanUpgradeOfGoal (refused fault line) p g bound out cert_in course = course ≡ goal_course p g (refused fault line)
+
+-- by the atom of the goal, where there is one
+abbrev pub CanUpgradeFor : Option ℕ → List (Problem × Bool) → Option ℕ → List ℕ → List ℕ → Course → Type 0
+CanUpgradeFor None ps bound out cert_in course = CanUpgradeBy (session_verdict ps bound cert_in) ps bound out cert_in course
+CanUpgradeFor (Some g) ((p, e) ∷ []) bound out cert_in course = CanUpgradeOfGoal (goal_verdict p g (has_room p) bound cert_in) p g bound out cert_in course
+CanUpgradeFor (Some g) ps bound out cert_in course = CanUpgradeBy (session_verdict ps bound cert_in) ps bound out cert_in course
+
 -- `upgrade`: so by the verdict of what CertIn held
-abbrev pub CanUpgrade : List (Problem × Bool) → Option ℕ → List ℕ → List ℕ → List ℕ → Course → Type 0
-CanUpgrade ps bound name out cert_in course =
-    (tail : Course) × CanUpgradeBy (session_verdict ps bound cert_in) ps bound out cert_in tail × (course ≡ behind ((CertIn, name) ∷ []) tail)
+abbrev pub CanUpgrade : Option ℕ → List (Problem × Bool) → Option ℕ → List ℕ → List ℕ → List ℕ → Course → Type 0
+CanUpgrade goal ps bound name out cert_in course =
+    (tail : Course) × CanUpgradeFor goal ps bound out cert_in tail × (course ≡ behind ((CertIn, name) ∷ []) tail)
 
 -- `demo`: any certificate that answers the problem, with a line on the script, which has no fault, and on the certificate's value
 abbrev pub CanDemo : Problem → Options → List ℕ → List ℕ → Course → Type 0
@@ -149,7 +161,7 @@ Can (Some (check words)) script cert_in parts course =
     (OfSession words.bound script (λ ps. CanCheck (goal_in words.bound script) ps words.bound words.cert cert_in)) course
 Can (Some (upgrade words)) script cert_in parts course =
     CanFrom words.script (session_fault words.bound script)
-    (OfSession words.bound script (λ ps. CanUpgrade ps words.bound words.cert words.out cert_in)) course
+    (OfSession words.bound script (λ ps. CanUpgrade (goal_in words.bound script) ps words.bound words.cert words.out cert_in)) course
 Can (Some (plan words)) script cert_in parts course =
     CanFrom words.script (session_fault words.bound script)
     (OfSession words.bound script (λ ps. CanPlan ps words.delta_bits words.margin_bits)) course

@@ -8,14 +8,14 @@ use Rattle.dyadic.specs.Rounding.{Dyadic, ext_at_most, finite}
 use Rattle.interval_model.specs.Space.{Space}
 use Rattle.poly_graph.specs.Problem.{Problem}
 use Rattle.cover_model.specs.Fits.{IsShownAt}
-use Rattle.cover_model.specs.State.{Loosenings, root_state}
+use Rattle.cover_model.specs.State.{Loosenings, in_version, root_state}
 use Rattle.cover_model.specs.Rules.{open_line}
 use Rattle.cover_model.specs.Honest.{is_honest}
 use Rattle.cover_model.specs.Derivation.{Tree}
 use Rattle.cert_model.specs.AnswerText.{has_open}
 use Rattle.cert_model.specs.Due.{Standing}
 use Rattle.cert_model.specs.Laws.{IsLawfulCover}
-use Rattle.cert_model.specs.Least.{can_limit, lower_end, upper_at}
+use Rattle.cert_model.specs.Least.{can_limit, is_lines_version, lower_end, upper_at}
 use Rattle.cert_model.specs.Limited.{limited}
 use Rattle.cert_model.specs.Written.{IsHonestTree, LemmaTree, lemma_states, left_standing, tree_branches, tree_standing}
 use Rattle.goal_limit.specs.Limits.{has_room}
@@ -40,9 +40,9 @@ pub record HonestCover (p : Problem) (s : Loosenings) (w : ℕ) : Type 0 where
 abbrev pub left_by : (p : Problem) (s : Loosenings) (w : ℕ) → HonestCover p s w → List Standing
 left_by p s w c = left_standing p s (lemma_states c.lemmas) (root_state p) c.tree
 
--- with the margin, the delta and the least width of the words
-abbrev pub CoverFor : Problem → Options → Type 0
-CoverFor p options = HonestCover p (loosenings_of options) options.least_bits
+-- in this version, with the margin, the delta and the least width of the words
+abbrev pub CoverFor : Problem → ℕ → Options → Type 0
+CoverFor p v options = HonestCover p (in_version v (loosenings_of options)) options.least_bits
 
 -- open lines are honest too
 abbrev pub IsHonestThroughout : (p : Problem) (s : Loosenings) (w : ℕ) → HonestCover p s w → Type 0
@@ -53,23 +53,27 @@ abbrev pub IsSureAt : Problem → Options → Space → Type 0
 IsSureAt p options x = IsShownAt p (loosenings_of options) x
 
 module _ (p : Problem) (g : ℕ) (options : Options) where
-  -- With a limit of the goal, the term of atom g: it found a point, or each line of its cover is honest.
+  -- With a limit of the goal, the term of atom g, in version 2 or 5: it found a point, or each line of its cover is honest.
   pub record LimitSearch : Type 0 where
+    pub version : ℕ
+    pub is_version : IsTrue (is_lines_version version)
     pub bits : ℕ
     pub limit : Dyadic
     pub takes : can_limit p (has_room p) (Some limit) bits ≡ true
-    pub cover : CoverFor (limited p g bits limit) options
+    pub cover : CoverFor (limited p g bits limit) version options
     pub point : Option Space
     pub sure : IfSome point (IsSureAt (limited p g bits limit) options)
-    pub honest : point ≡ None → IsHonestThroughout (limited p g bits limit) (loosenings_of options) options.least_bits cover
+    pub honest : point ≡ None → IsHonestThroughout (limited p g bits limit) (in_version version (loosenings_of options)) options.least_bits cover
 
   -- the states that it leaves
   abbrev pub left_of : LimitSearch → List Standing
-  left_of x = left_by (limited p g x.bits x.limit) (loosenings_of options) options.least_bits x.cover
+  left_of x = left_by (limited p g x.bits x.limit) (in_version x.version (loosenings_of options)) options.least_bits x.cover
 
   -- the first one found this point
   pub record Searches : Type 0 where
-    pub first : CoverFor p options
+    pub version : ℕ
+    pub is_version : IsTrue (is_lines_version version)
+    pub first : CoverFor p version options
     pub start : Space
     pub sure : IsSureAt p options start
     pub later : List LimitSearch

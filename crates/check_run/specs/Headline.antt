@@ -1,5 +1,5 @@
 -- What the answers of a run say of its script.
-use Rattle.std.specs.Prelude.{◌≡◌, ◌++◌, ◌⊎◌, ℕ, suc, List, [], ◌∷◌, Bool, Option, Some, None, IsSomeAnd, codes, length, slice_get}
+use Rattle.std.specs.Prelude.{◌≡◌, ◌++◌, ◌⊎◌, ℕ, suc, List, [], ◌∷◌, Bool, Option, Some, None, IsSomeAnd, IsTrue, codes, length, slice_get}
 use Rattle.desk.specs.Sight.{Sight}
 use Rattle.command_line.specs.declared.request.Options.{Options}
 use Rattle.command_line.specs.Words.{Command, Minimize, Plan, Resume, Solve, solve, minimize, check, demo, upgrade, plan, resume, join}
@@ -11,14 +11,14 @@ use Rattle.poly_graph.specs.Problem.{Problem}
 use Rattle.interval_model.specs.Space.{Space}
 use Rattle.width_plan.specs.Plan as width
 use Rattle.width_plan.specs.Plan.{least_bits}
-use Rattle.cover_model.specs.State.{Loosenings, margin_of, delta_of}
+use Rattle.cover_model.specs.State.{Loosenings, in_version, margin_of, delta_of}
 use Rattle.cert_model.specs.Due.{CertFault, Standing, Value, at_point, left_open, coordinates}
 use Rattle.cert_model.specs.Accepted.{IsAccepted, refused, verdict}
 use Rattle.cert_model.specs.AnswerText.{text_line, unsat_text, delta_sat_text, check_text, least_text, solve_text, verdict_text}
-use Rattle.cert_model.specs.Least.{Least, least, upper_at, IsGoalAccepted, goal_verdict}
+use Rattle.cert_model.specs.Least.{Least, least, upper_at, is_lines_version, IsGoalAccepted, goal_verdict}
 use Rattle.goal_limit.specs.Limits.{has_room}
 use Rattle.cert_model.specs.Session.{AreAccepted, session_verdict}
-use Rattle.cert_upgrade.specs.Upgraded.{in_newest, upgraded}
+use Rattle.cert_upgrade.specs.Upgraded.{upgraded}
 use Rattle.headline.specs.Laws.{HasNoPoint}
 use Rattle.headline.specs.Least.{HasLowerBound, IsGoalAtMost}
 use Rattle.headline.specs.Near.{IsNearDeclaredBox}
@@ -27,7 +27,7 @@ use Rattle.smt_script.specs.Levels.{Asked, checks_of}
 use Rattle.script_reading.specs.Goals.{goal_in}
 use Rattle.script_reading.specs.Reader.{commands_of, HasProblem, IsBuilt}
 use Rattle.script_reading.specs.Session.{HasSession, asked_in, steps_of_text}
-use Rattle.check_run.specs.Answer.{demo_text, loosenings_for, loosenings_of, solve_texts, AreAnswers, IsAnswer}
+use Rattle.check_run.specs.Answer.{demo_text, loosenings_of, solve_texts, AreAnswers, IsAnswer}
 use Rattle.check_run.specs.declared.status.Status.TheVariants.{Answered, CertRefused}
 use Rattle.check_run.specs.Course.{Course, appended}
 use Rattle.check_run.specs.Can.{Can, ArePlans, check_texts, plan_texts}
@@ -66,8 +66,8 @@ pub record IsSolved (options : Options) (script : List ℕ) (old new : Sight) : 
   pub values : List Value
   pub written : new.cert_out ≡ appended old.cert_out cert
   pub answers : AreAnswers problems options cert values
-  pub answer : new.answer ≡ appended old.answer (solve_texts options.budget (loosenings_for (length problems) options) problems values)
-  pub say : AreTrueValues options.bound (loosenings_for (length problems) options) (asked_in options.bound script) values
+  pub answer : new.answer ≡ appended old.answer (solve_texts options.budget (loosenings_of options) problems values)
+  pub say : AreTrueValues options.bound (loosenings_of options) (asked_in options.bound script) values
 
 -- The certificate is accepted for the problems of the script's checks, the answer is the texts of its values, one after the other, and what
 -- each says of its check is so.
@@ -140,7 +140,7 @@ pub record IsResumed (words : Resume) (script cert_in : List ℕ) (old new : Sig
   pub written : new.cert_out ≡ appended old.cert_out cert
   pub more : IsMore problem words.bound words cert_in loosenings read cert text
   pub answer : new.answer ≡ appended old.answer text
-  pub say : IsTrueValue words.bound (in_newest 1 loosenings) (commands_of words.bound script) more.value
+  pub say : IsTrueValue words.bound (in_version more.version loosenings) (commands_of words.bound script) more.value
 
 -- What was written as certificate is accepted for the problem of the script's only check; it joins the covers of the certificates; the answer is the
 -- text of its value, and what that says of the check is so.
@@ -189,14 +189,16 @@ abbrev pub IsWritten : List ℕ → Sight → Sight → Type 0
 IsWritten text old new = IsSomeAnd old.answer (λ before. new.answer ≡ Some (before ++ text))
 
 -- The script holds nowhere in its declared box, each atom loosened by the margin; and what was written as certificate is
--- accepted as a cover that leaves nothing.
+-- accepted, in version 2 or 5, as a cover that leaves nothing.
 pub record IsUnsat (options : Options) (script : List ℕ) (old new : Sight) : Type 0 where
   pub no_point : HasNoPoint options.bound (commands_of options.bound script) (exact (margin_of (loosenings_of options)))
   pub problem : Problem
   pub built : IsBuilt options.bound script problem
   pub cert : List ℕ
   pub written : new.cert_out ≡ appended old.cert_out cert
-  pub accepted : IsAccepted problem options.bound cert (loosenings_of options) (left_open [])
+  pub version : ℕ
+  pub is_version : IsTrue (is_lines_version version)
+  pub accepted : IsAccepted problem options.bound cert (in_version version (loosenings_of options)) (left_open [])
 
 -- The certificate is accepted as a cover that leaves nothing, so the script holds nowhere in its declared box, each atom loosened by the margin.
 pub record IsConfirmedUnsat (bound : Option ℕ) (script cert_in : List ℕ) (s : Loosenings) : Type 0 where
@@ -281,7 +283,8 @@ IsTrueDeltaSat (Some (join words)) script cert_in parts old new =
     (s : Loosenings) × (space : Space) × IsWritten (check_text s (at_point space)) old new × IsWrittenPoint words.bound script s space old new
 IsTrueDeltaSat (Some (demo words)) script cert_in parts old new =
     (bytes atoms : ℕ) → IsWritten (demo_text bytes atoms delta_sat_word) old new →
-    (space : Space) × IsWrittenPoint words.options.bound (demo_script words.seed words.size) (loosenings_of words.options) space old new
+    (space : Space) × (v : ℕ) × IsTrue (is_lines_version v)
+    × IsWrittenPoint words.options.bound (demo_script words.seed words.size) (in_version v (loosenings_of words.options)) space old new
 IsTrueDeltaSat _ script cert_in parts old new = Unit {0}
 
 -- ---- certificates that are refused, or written again
@@ -328,27 +331,39 @@ abbrev pub IsTrueRefusal : Option Command → List ℕ → List ℕ → List (Li
 IsTrueRefusal (Some (check words)) script cert_in parts old new =
     IsRefusedCert words.bound script cert_in old new ⊎ IsRefusedForGoal words.bound script cert_in old new
 IsTrueRefusal (Some (upgrade words)) script cert_in parts old new =
-    IsRefusedCert words.bound script cert_in old new × (new.cert_out ≡ appended old.cert_out [])
+    (IsRefusedCert words.bound script cert_in old new ⊎ IsRefusedForGoal words.bound script cert_in old new) × (new.cert_out ≡ appended old.cert_out [])
 IsTrueRefusal (Some (resume words)) script cert_in parts old new =
     IsRefusedToResume words.bound script cert_in old new × (new.cert_out ≡ appended old.cert_out [])
 IsTrueRefusal (Some (join words)) script cert_in parts old new =
     AreNotJoined words.bound script parts old new × (new.cert_out ≡ appended old.cert_out [])
 IsTrueRefusal _ script cert_in parts old new = Unit {0}
 
--- The certificate is accepted, and what was written is accepted in the newest version for so many checks, with the same values: the same
--- lines behind the first.
+-- The certificate is accepted, and what was written is accepted in the newest version, with the same values: the same lines behind the first.
 pub record IsUpgraded (bound : Option ℕ) (script cert_in : List ℕ) (old new : Sight) : Type 0 where
   pub problems : List (Problem × Bool)
   pub session : HasSession bound problems script
   pub loosenings : Loosenings
   pub values : List Value
   pub accepted : AreAccepted problems bound cert_in loosenings values
-  pub written : new.cert_out ≡ appended old.cert_out (upgraded (length problems) cert_in)
-  pub again : AreAccepted problems bound (upgraded (length problems) cert_in) (in_newest (length problems) loosenings) values
+  pub written : new.cert_out ≡ appended old.cert_out (upgraded cert_in)
+  pub again : AreAccepted problems bound (upgraded cert_in) (in_version 5 loosenings) values
+
+-- The same of a certificate of the least value of the script's goal.
+pub record IsUpgradedLeast (bound : Option ℕ) (script cert_in : List ℕ) (old new : Sight) : Type 0 where
+  pub problem : Problem
+  pub built : IsBuilt bound script problem
+  pub goal : ℕ
+  pub is_goal : goal_in bound script ≡ Some goal
+  pub loosenings : Loosenings
+  pub value : Least
+  pub accepted : IsGoalAccepted problem goal (has_room problem) bound cert_in loosenings (least value)
+  pub written : new.cert_out ≡ appended old.cert_out (upgraded cert_in)
+  pub again : IsGoalAccepted problem goal (has_room problem) bound (upgraded cert_in) (in_version 5 loosenings) (least value)
 
 -- `upgrade` answers where that is so.
 abbrev pub IsTrueUpgrade : Option Command → List ℕ → List ℕ → List (List ℕ) → Sight → Sight → Type 0
-IsTrueUpgrade (Some (upgrade words)) script cert_in parts old new = IsUpgraded words.bound script cert_in old new
+IsTrueUpgrade (Some (upgrade words)) script cert_in parts old new =
+    IsUpgraded words.bound script cert_in old new ⊎ IsUpgradedLeast words.bound script cert_in old new
 IsTrueUpgrade _ script cert_in parts old new = Unit {0}
 
 -- ---- plans
@@ -374,7 +389,7 @@ abbrev pub NeverUnknownWidthAt : Plan → ℕ → List ℕ → ℕ → Type 0
 NeverUnknownWidthAt words bits script k =
     (options : Options) → AreOptionsAt words bits options → (problems : List (Problem × Bool)) → HasSession options.bound problems script → (cert : List ℕ) (values : List Value) →
     AreAnswers problems options cert values → (p : Problem) (e : Bool) (v : Value) → slice_get problems k ≡ Some (p, e) → slice_get values k ≡ Some v →
-    (rest : List ℕ) → solve_text p options.budget (loosenings_for (length problems) options) v ≡ unknown_width_word ++ rest → ⊥
+    (rest : List ℕ) → solve_text p options.budget (loosenings_of options) v ≡ unknown_width_word ++ rest → ⊥
 
 abbrev pub IsEnoughAt : Plan → List ℕ → ℕ → width.Answer → Type 0
 IsEnoughAt words script k (least_bits bits) = NeverUnknownWidthAt words bits script k × NeverUnknownWidth words bits script

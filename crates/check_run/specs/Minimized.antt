@@ -1,15 +1,16 @@
 -- The answers of `minimize`.
-use Rattle.std.specs.Prelude.{◌≡◌, ◌≢◌, ◌≤◌, ◌⊎◌, ◌++◌, ℕ, List, [], ◌∷◌, true, Option, Some, None, codes}
+use Rattle.std.specs.Prelude.{◌≡◌, ◌≢◌, ◌≤◌, ◌⊎◌, ◌++◌, ℕ, List, [], ◌∷◌, true, Option, Some, None, IsTrue, codes}
 use Rattle.command_line.specs.declared.request.Options.{Options}
 use Rattle.command_line.specs.Words.{Minimize}
 use Rattle.dyadic.specs.End.{lesser_ext}
 use Rattle.dyadic.specs.Rounding.{Dyadic, Ext, above_all, ext_at_most}
 use Rattle.poly_graph.specs.Problem.{Problem}
 use Rattle.interval_model.specs.Space.{Space}
+use Rattle.cover_model.specs.State.{in_version}
 use Rattle.cert_read.specs.LineText.{lower_text}
 use Rattle.cert_model.specs.Due.{Standing, left_open}
 use Rattle.cert_model.specs.AnswerText.{text_line, axes_text, budget_text, solve_text, upper_line, value_text}
-use Rattle.cert_model.specs.Least.{Least, least, lower_end, upper_at, IsGoalAccepted, IsSettled}
+use Rattle.cert_model.specs.Least.{Least, least, lower_end, upper_at, is_lines_version, IsGoalAccepted, IsSettled}
 use Rattle.goal_limit.specs.Limits.{has_room}
 use Rattle.goal_limit.specs.Lows.{low_at, root_low}
 use Rattle.goal_limit.specs.Tries.{Span, HasNoLimit, IsTarget}
@@ -67,10 +68,12 @@ pub record IsLowerBound (p : Problem) (g : ℕ) (x : Least) : Type 0 where
   pub root : ext_at_most (lower_end (root_low p g)) (lower_end x.lower) ≡ true
   pub over : x.over ≢ [] → lower_end x.lower ≡ least_low p g x.over
 
--- A certificate with a lower bound of the goal and a point, with the words' bound, margin and delta. The searches that found them cost at most the
+-- A certificate with a lower bound of the goal and a point, with the words' bound, margin and delta, and with the lines of version 2 or 5. The searches that found them cost at most the
 -- budget, all that they found is in the bounds, and the cause is told by what they did: bounds that are near are told as near.
 pub record IsLeastAnswer (p : Problem) (g : ℕ) (words : Minimize) (cert : List ℕ) (cause : Cause) (x : Least) : Type 0 where
-  pub accepted : IsGoalAccepted p g (has_room p) words.options.bound cert (loosenings_of words.options) (least x)
+  pub version : ℕ
+  pub is_version : IsTrue (is_lines_version version)
+  pub accepted : IsGoalAccepted p g (has_room p) words.options.bound cert (in_version version (loosenings_of words.options)) (least x)
   pub lower : IsLowerBound p g x
   pub point : Space
   pub has_point : x.point ≡ Some point

@@ -37,7 +37,7 @@ pub use planned::{plan_least_bits, plan_no_atom, plan_no_axis};
 pub use ports::{finish, say};
 pub use refused::cert_fault;
 pub use run::run_check;
-pub use script::{Halt, end_halted, fetch_goal, fetch_session, refusal, too_long};
+pub use script::{Halt, end_halted, fetch_goal, fetch_session, fetch_with_goal, refusal, too_long};
 pub use script_refused::script_fault;
 pub use several::fetch_several;
 pub use solved::{budget, delta_sat, demo, part, unsat, width};

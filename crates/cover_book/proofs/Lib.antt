@@ -12,4 +12,5 @@ pub mod Meaning
 pub mod Naming
 pub mod Nodes
 pub mod Opens
+pub mod Raised
 pub mod Stores

@@ -19,8 +19,8 @@ use Rattle.cover_model.specs.Fits.{FitsProblem}
 use Rattle.cover_model.proofs.Lies.{covers_through}
 use Rattle.cover_model.proofs.Root.{root_has, crossed_is_empty}
 use Rattle.cover_model.proofs.Sound.{tree_keeps}
-use Rattle.cert_model.specs.Accepted.{loosenings_fit}
-use Rattle.cert_model.specs.Due.{Standing}
+use Rattle.cert_model.specs.Accepted.{is_header, loosenings_fit}
+use Rattle.cert_model.specs.Due.{Standing, is_version}
 use Rattle.cert_model.specs.Derived.{AreDerived, states_of}
 use Rattle.cert_model.specs.Written.{LemmaTree, lemma_states, AreLemmaTrees, left_standing, tree_standing}
 use Rattle.cert_model.proofs.Means.{lemmas_after}
@@ -116,6 +116,10 @@ pub fits_limits : (b : BookModel) → IsBook b → IsTrue (loosenings_fit b.opti
 fits_limits b w = let m = w.limits.margins in let d = b.options.delta_bits in let g = b.options.margin_bits in
     both_pass _ _ (both_pass _ _ (both_pass _ _ (le-leb 1 d m.some_delta) (le-leb d 30 m.few_delta)) (le-leb (suc d) g m.above_delta)) (le-leb g 60 m.few_margin)
 
+header_fits : (b : BookModel) → IsBook b → IsTrue (is_header (loosenings_in b))
+header_fits b w = both_pass (is_version b.options.version) (loosenings_fit b.options.margin_bits b.options.delta_bits)
+    (elim w.limits.margins.version_is [ inl e ↦ ap is_version e | inr e ↦ ap is_version e ]) (fits_limits b w)
+
 module _ (b : BookModel) (w : IsBook b) (h : IsCovered b) where
   abbrev but_open : Standing → Type 0
   but_open x = (x.does ≡ open_line → ⊥) → IsTrue (is_honest (problem_in b) b.options.least_bits (loosenings_in b) x.state x.does)
@@ -127,7 +131,7 @@ module _ (b : BookModel) (w : IsBook b) (h : IsCovered b) where
   covered-tree = record {
     numbers = h.numbers;
     is_tree = h.is_tree;
-    loosenings = fits_limits b w;
+    loosenings = header_fits b w;
     few = omega (arith, length-map b.lemmas lemma_tree, w.few_lemmas);
     lemmas = w.lemmas;
     not_crossed = h.not_crossed;

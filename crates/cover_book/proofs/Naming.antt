@@ -136,7 +136,7 @@ module _ (p : Problem) (g : IsProblem p) (m : Margins) (lemmas : List State) whe
       both_pass (is_atom p j) (are_atoms p rest) (both_true (nat_lt j (length p.atoms)) (in_yes S j || in_no_one_sided p S j) a.0).0 (combinable-there S rest a.1)
 
   combined-there : (S : State) (ms : Multipliers) → IsTrue (can_combine p s S ms) → IsTrue (are_atoms p ms)
-  combined-there S ms h = combinable-there S ms (both_true (has_version_2 s && is_combination ms) (are_combinable p S ms) h).1
+  combined-there S ms h = combinable-there S ms (both_true (has_version_2 s && is_combination s ms) (are_combinable p S ms) h).1
 
   -- what narrows names atoms that are there
   narrowing-names : (S : State) → HasMarks S → (n : Narrowing) → IsTrue (can_narrow p s S n) → IsTrue (names_well p (narrow_by n)) × IsTrue (names_well p (end_by (void_by n)))

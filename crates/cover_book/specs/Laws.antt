@@ -19,7 +19,7 @@ use Rattle.cert_model.specs.Accepted.{is_header, most_lemmas}
 use Rattle.cert_model.specs.Laws.{IsLawfulCover}
 use Rattle.cover_book.specs.declared.calls.Call.{Call}
 use Rattle.cover_book.specs.declared.calls.Reply.{Reply}
-use Rattle.cover_book.specs.Model.{NodeModel, stuck_node, BookModel, problem_in, margins_of, loosenings_in, IsOfRoot, lemma_states_in, opening, opening_with, opening_at, kept_from}
+use Rattle.cover_book.specs.Model.{NodeModel, stuck_node, BookModel, problem_in, margins_of, loosenings_in, IsOfRoot, lemma_states_in, opening, opening_with, opening_at, kept_from, raised}
 use Rattle.cover_book.specs.Verdict.{is_live}
 use Rattle.cover_book.specs.Steps.{MayBeCalled, BookStep, IsLive}
 use Rattle.cover_book.specs.Tree.{TreeOf, occurrences, lemma_trees, cover_lemmas}
@@ -40,6 +40,10 @@ abbrev pub RootedIsBook : Type 0
 RootedIsBook = (p : Parts) (o : Options) (kept : List State) (S : State) → IsWhole p → IsWithinLimits p o → length kept ≤ most_lemmas →
     All (IsKeptLemma (problem_of p) (loosenings_of (margins_of o))) kept → FitsProblem (problem_of p) S → IsTrue (covers (root_state (problem_of p)) S) →
     first_crossed (problem_of p) ≡ None → IsBook (opening_at p o kept S)
+
+-- A book is one in version 5, too.
+abbrev pub RaisedIsBook : Type 0
+RaisedIsBook = (b : BookModel) → IsBook b → IsBook (raised b)
 
 -- All lemmas of a book are such as another one of its problem may open with.
 abbrev pub LemmasMayBeKept : Type 0

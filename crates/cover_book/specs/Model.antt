@@ -7,7 +7,7 @@ use Rattle.cover_model.specs.State.{State, Loosenings, root_state}
 use Rattle.cover_model.specs.Rules.{Line}
 use Rattle.cover_data.specs.declared.margins.Options.{Options}
 pub use Rattle.cover_data.specs.Margins.{margins_of}
-use Rattle.cover_data.specs.Margins.{loosenings_of}
+use Rattle.cover_data.specs.Margins.{loosenings_of, options_in}
 use Rattle.cover_data.specs.Models.{LemmaModel}
 use Rattle.cert_model.specs.Session.{kept_by}
 
@@ -112,3 +112,7 @@ opening p o = opening_with p o []
 -- the book keeps a point, or where a declared box is empty.
 abbrev pub kept_from : BookModel → Parts → List State
 kept_from b q = cond (is_some b.point) [] (kept_by true (problem_in b) (lemma_states_in b) (problem_of q))
+
+-- the same book in version 5
+abbrev pub raised : BookModel → BookModel
+raised b = record b { options = options_in 5 b.options }

@@ -11,7 +11,7 @@ ghost use Rattle.cover_data.specs.Runs.{CanPart};
 ghost use Rattle.cover_data.specs.Views.{kept_of, end_of};
 ghost use Rattle.cover_book.specs.Calls.{IsLearnedOf, IsOpeningOf, IsOutcomeOf, KeepsLemma, PartsNode, StoresLemma, StoresPatch, TestsCommit, TestsQuoted};
 ghost use Rattle.cover_book.specs.Limits.{IsWithinLimits};
-ghost use Rattle.cover_book.specs.Model.{learned_states, lemma_count, lemma_states_in, live_node, margins_of, opening, opening_at, opening_with};
+ghost use Rattle.cover_book.specs.Model.{learned_states, lemma_count, lemma_states_in, live_node, margins_of, opening, opening_at, opening_with, raised};
 ghost use Rattle.cover_book.specs.Verdict.{verdict_of, is_live, is_stuck, live_after};
 ghost use Rattle.cover_book.specs.Views.{learned_of, node_of};
 ghost use Rattle.cover_book.specs.Keeps.{IsBook, IsKeptLemma};
@@ -317,6 +317,13 @@ impl Book {
             branches: 0,
             point: None,
         })
+    }
+
+    /// Goes over to version 5 of the format.
+    pub fn raise(&mut self)
+        ensures { self.new ≡ raised self.old }
+    {
+        self.options.version = 5;
     }
 
     /// The states of all its lemmas, by number: those that it opened with, and those that were learned.

@@ -1,6 +1,6 @@
 //! What is proved of books: each function here does nothing, and its contract is a law.
 
-ghost use Rattle.cover_book.specs.Laws.{OpeningIsBook, CarriedIsBook, RootedIsBook, LemmasMayBeKept, StepKeepsBook, StepKeepsProblem, ConditionLasts, StepGrows, BookCatches, NodesLieWithin, BookHasTree, TreeIsHonest, RootedTreeIsCover};
+ghost use Rattle.cover_book.specs.Laws.{OpeningIsBook, CarriedIsBook, RootedIsBook, RaisedIsBook, LemmasMayBeKept, StepKeepsBook, StepKeepsProblem, ConditionLasts, StepGrows, BookCatches, NodesLieWithin, BookHasTree, TreeIsHonest, RootedTreeIsCover};
 
 /// No call changes the problem, the options, or what the book opened with.
 pub fn steps_keep_problem()
@@ -25,6 +25,11 @@ pub fn carried_is_book()
 /// So does one that opens in any state within the root, with lemmas of its problem.
 pub fn rooted_is_book()
     ensures { RootedIsBook }
+{}
+
+/// A book is one in version 5, too.
+pub fn raised_is_book()
+    ensures { RaisedIsBook }
 {}
 
 /// All lemmas of a book are such as another one of its problem may open with.

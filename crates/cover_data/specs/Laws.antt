@@ -1,5 +1,5 @@
 -- What is proved of runs.
-use Rattle.std.specs.Prelude.{◌≡◌, ◌⊎◌, ℕ, List, [], ◌∷◌, ◌++◌, Some, IsTrue}
+use Rattle.std.specs.Prelude.{◌≡◌, ◌⊎◌, ◌≤◌, ℕ, List, [], ◌∷◌, ◌++◌, Some, IsTrue}
 use Rattle.dyadic.specs.Point.{Coordinate}
 use Rattle.poly_graph.specs.Problem.{Problem, IsProblem}
 use Rattle.cover_model.specs.State.{State, Loosenings, IsPointOf, MeetsForm, IsLemma, covers}
@@ -7,7 +7,7 @@ use Rattle.cover_model.specs.Rules.{Line, stuck}
 use Rattle.cover_model.specs.Derivation.{Tree, leaf, fork, Lawful}
 use Rattle.cover_model.specs.Fits.{FitsProblem}
 use Rattle.cover_data.specs.declared.margins.Margins.{Margins}
-use Rattle.cover_data.specs.Margins.{loosenings_of}
+use Rattle.cover_data.specs.Margins.{loosenings_of, margins_in}
 use Rattle.cover_data.specs.Models.{KeptModel}
 use Rattle.cover_data.specs.Runs.{StepsLead, tree_after, AreKept, is_closing, children, IsLawfulRun, IsRun, IsClosed}
 
@@ -47,3 +47,7 @@ BranchKeepsPoints = (p : Problem) → IsProblem p → (m : Margins) (k : KeptMod
 abbrev pub ChildrenLieWithin : Type 0
 ChildrenLieWithin = (p : Problem) → IsProblem p → (m : Margins) (k : KeptModel) → IsRun p m k → (l : Line) → k.end ≡ Some l → (a b : State) → children l k.reached ≡ Some (a, b) →
     (IsTrue (covers k.first a) × FitsProblem p a) × (IsTrue (covers k.first b) × FitsProblem p b)
+
+-- A run in a version is one in each later version.
+abbrev pub RunIsLater : Type 0
+RunIsLater = (p : Problem) (m : Margins) (v : ℕ) → m.version ≤ v → (k : KeptModel) → IsRun p m k → IsRun p (margins_in v m) k

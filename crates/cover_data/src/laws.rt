@@ -1,6 +1,6 @@
 //! What is proved of runs of rules: each function here does nothing, and its contract is a law.
 
-ghost use Rattle.cover_data.specs.Laws.{StepsBeforeTree, ClosedRunIsTree, StuckRunIsTree, BranchRunIsTree, ClosedRunIsLemma, BranchKeepsPoints, ChildrenLieWithin};
+ghost use Rattle.cover_data.specs.Laws.{StepsBeforeTree, ClosedRunIsTree, StuckRunIsTree, BranchRunIsTree, ClosedRunIsLemma, BranchKeepsPoints, ChildrenLieWithin, RunIsLater};
 
 /// Steps before a lawful tree make a lawful tree, with the same states that stay.
 pub fn steps_before_tree()
@@ -35,4 +35,9 @@ pub fn branch_keeps_points()
 /// The two states that a branch leaves lie within the first one, and are states of the problem.
 pub fn children_lie_within()
     ensures { ChildrenLieWithin }
+{}
+
+/// A run in a version of the format is one in each later version.
+pub fn run_is_later()
+    ensures { RunIsLater }
 {}

@@ -41,6 +41,6 @@ module _ (p : Problem) (s : Loosenings) (S : State) (point : List Coordinate) (i
 
   pub combined_point : IsProblem p → (ms : Multipliers) → IsTrue (can_combine p s S ms) → (space : Space) × (combining p s S ms ≡ Some space) × IsTrue (in_space space point)
   combined_point g ms h =
-      let sorts = sorts_of_problem p in let combinable = (both_true (has_version_2 s && is_combination ms) (are_combinable p S ms) h).1 in
+      let sorts = sorts_of_problem p in let combinable = (both_true (has_version_2 s && is_combination s ms) (are_combinable p S ms) h).1 in
       keeps p g (marked_range p (margin_of s) S.marks) S.space (middle S.space) point (middle_point S.space point) i.sorted i.inside (middle_is_point sorts S.space point i.sorted i.inside) (in_middle S.space point i.inside) ms
       (all-lie ms combinable)

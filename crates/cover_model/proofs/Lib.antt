@@ -1,4 +1,5 @@
 pub mod Axes
+pub mod Carried
 pub mod CombinationCompleted
 pub mod CombinationConstants
 pub mod CombinationFractions
@@ -16,6 +17,7 @@ pub mod CombinationTightened
 pub mod CombinationWithin
 pub mod Encloses
 pub mod Isotone
+pub mod Later
 pub mod Lies
 pub mod May
 pub mod Meets
@@ -35,4 +37,3 @@ pub mod Sound
 pub mod Stuck
 pub mod Unnarrowed
 pub mod Within
-pub mod Carried

@@ -1,13 +1,13 @@
 -- Honest lines: those that a search writes, which stop no earlier and cut nowhere else than they should.
-use Rattle.std.specs.Prelude.{ℕ, zero, suc, List, [], ◌∷◌, ◌++◌, Bool, true, false, not, ◌&&◌, ◌||◌, Option, Some, None, nat_eq}
+use Rattle.std.specs.Prelude.{ℕ, zero, suc, List, [], ◌∷◌, ◌++◌, Bool, true, false, not, ◌&&◌, ◌||◌, Option, Some, None, cond, nat_eq}
 use Rattle.dyadic.specs.Fraction.{Fraction, at_most, difference_of}
 use Rattle.dyadic.specs.Rounding.{Dyadic, exact, two_to_minus, mid}
 use Rattle.poly_graph.specs.Form.{Form, atom_is, all_form, Forms, no_forms, more_forms}
-use Rattle.interval_model.specs.Space.{Domain, real_domain, bool_domain, Space, middle, can_be_halved, widest}
+use Rattle.interval_model.specs.Space.{Domain, real_domain, bool_domain, Space, middle, can_be_halved, widest, test_axis}
 use Rattle.poly_graph.specs.Problem.{Problem}
 use Rattle.poly_graph.specs.Marks.{Mark, is_yes}
 use Rattle.cover_model.specs.State.{State, Loosenings, margin_of, in_yes, with_no, may, sure, misses}
-use Rattle.cover_model.specs.Rules.{Line, narrowing, is_stuck_atom, branch_by, cut_axis, flip_axis, case_atom, stay_by, open_state, stuck_atom}
+use Rattle.cover_model.specs.Rules.{Line, has_version_5, narrowing, is_stuck_atom, branch_by, cut_axis, flip_axis, case_atom, stay_by, open_state, stuck_atom}
 
 -- ---- a state to which nothing more can be done without a branch
 
@@ -65,7 +65,7 @@ is_middle_at axis c [] = false
 is_middle_at zero c (d ∷ space) = is_middle_of c d
 is_middle_at (suc axis) c (d ∷ space) = is_middle_at axis c space
 
--- ---- stuck states
+-- ---- small axes
 
 abbrev pub is_small_domain : ℕ → Domain → Bool
 is_small_domain w (real_domain l h) = not (can_be_halved (real_domain l h)) || at_most (difference_of (exact h) (exact l)) (exact (two_to_minus w))
@@ -76,6 +76,19 @@ abbrev pub is_small : ℕ → Space → Bool
 is_small w [] = true
 is_small w (d ∷ space) = is_small_domain w d && is_small w space
 
+-- a Real axis that can be halved, with a side above 2^-w
+abbrev pub is_wide_domain : ℕ → Domain → Bool
+is_wide_domain w (real_domain l h) = not (is_small_domain w (real_domain l h))
+is_wide_domain w (bool_domain f t) = false
+
+-- ---- cuts
+
+-- The axis has a side above 2^-w. Before version 5 it is the widest, too.
+abbrev pub may_be_cut : ℕ → Loosenings → ℕ → Space → Bool
+may_be_cut w s axis space = cond (has_version_5 s) (test_axis (is_wide_domain w) axis space) (is_wide w axis (widest space))
+
+-- ---- stuck states
+
 -- no atom below j meets the condition of the line for stuck states
 abbrev pub none_below : Problem → Loosenings → State → ℕ → Bool
 none_below p s S zero = true
@@ -84,7 +97,7 @@ none_below p s S (suc j) = not (is_stuck_atom p s S j) && none_below p s S j
 -- ---- honesty, where w is the number of bits of the least width
 
 abbrev pub is_honest : Problem → ℕ → Loosenings → State → Line → Bool
-is_honest p w s S (branch_by (cut_axis axis c)) = not_shown p s S && settled p s S && is_wide w axis (widest S.space) && is_middle_at axis c S.space
+is_honest p w s S (branch_by (cut_axis axis c)) = not_shown p s S && settled p s S && may_be_cut w s axis S.space && is_middle_at axis c S.space
 is_honest p w s S (branch_by (flip_axis axis)) = not_shown p s S && settled p s S
 is_honest p w s S (branch_by (case_atom j)) = not_shown p s S && settled p s S && may p s (with_no S j) && not (misses p (margin_of s) S.space j)
 is_honest p w s S (stay_by (stuck_atom j)) = not_shown p s S && settled p s S && is_small w S.space && none_below p s S j

@@ -40,6 +40,10 @@ in_no_one_sided p S j = in_no S j && is_one_sided (atom_at p j).1
 abbrev pub has_version_2 : Loosenings → Bool
 has_version_2 s = nat_le 2 s.version
 
+-- so are those of version 5
+abbrev pub has_version_5 : Loosenings → Bool
+has_version_5 s = nat_le 5 s.version
+
 -- atom j, which fails, may narrow the space
 abbrev pub can_push : Problem → Loosenings → State → ℕ → Bool
 can_push p s S j = has_version_2 s && in_no_one_sided p S j
@@ -61,13 +65,17 @@ are_ordered [] = true
 are_ordered ((j, l) ∷ []) = misses_nought (only l)
 are_ordered ((j, l) ∷ (k, m) ∷ rest) = misses_nought (only l) && nat_lt j k && are_ordered ((k, m) ∷ rest)
 
--- from 1 to 64 pairs in order
-abbrev pub is_combination : Multipliers → Bool
-is_combination ms = nat_lt 0 (length ms) && nat_le (length ms) 64 && are_ordered ms
+-- a combination has at most so many pairs
+abbrev pub most_pairs : Loosenings → ℕ
+most_pairs s = cond (has_version_5 s) 512 64
+
+-- one pair or more, in order
+abbrev pub is_combination : Loosenings → Multipliers → Bool
+is_combination s ms = nat_lt 0 (length ms) && nat_le (length ms) (most_pairs s) && are_ordered ms
 
 -- these atoms may be combined at the state
 abbrev pub can_combine : Problem → Loosenings → State → Multipliers → Bool
-can_combine p s S ms = has_version_2 s && is_combination ms && are_combinable p S ms
+can_combine p s S ms = has_version_2 s && is_combination s ms && are_combinable p S ms
 
 -- ---- lemmas
 

@@ -23,6 +23,9 @@ pub record Loosenings : Type 0 where
   pub delta_bits : ℕ
   pub version : ℕ
 
+abbrev pub in_version : ℕ → Loosenings → Loosenings
+in_version v s = record s { version = v }
+
 abbrev pub margin_of : Loosenings → Dyadic
 margin_of s = two_to_minus s.margin_bits
 

@@ -209,6 +209,8 @@ pub(crate) enum Call {
     // The middle of the first node's box is found at the second one.
     Found(u32, u32, Result<(), Refused>),
     NotOpen(u32),
+    // The book goes over to version 5.
+    Raise,
     Verdict(BookVerdict),
     // What the book says, the certificate that it is written as, and what that is confirmed to be.
     Written(BookVerdict, &'static str, Verdict),
@@ -224,6 +226,10 @@ fn is_answered(alloc: Global, book: &mut Book, call: &Call) -> bool {
         Call::LiveAfter(from, node) => book.live_after(*from) == *node,
         Call::Found(of, node, reply) => is_found(alloc, book, *of, *node, reply),
         Call::NotOpen(node) => is_not_open(book, *node),
+        Call::Raise => {
+            book.raise();
+            true
+        }
         Call::Verdict(said) => book.verdict() == *said,
         Call::Written(said, text, confirmed) => is_written(alloc, book, *said, text, *confirmed),
     }
@@ -319,6 +325,27 @@ pull 4
 false
 pull 4
 false
+end
+";
+
+// The first axis is cut again, though the second one is wider.
+const RAISED_COVER: &str = "dpoly 5
+margin 20
+delta 10
+bound none
+cover 0
+tree
+unit 0
+unit 1
+unit 2
+unit 3
+unit 4
+unit 5
+cut 0 1b0
+cut 0 1b-1
+open
+open
+open
 end
 ";
 
@@ -506,6 +533,38 @@ const BOOKS: &[Calls] = &[
                 reply: Ok(Kids::None),
             }),
             Call::Written(BookVerdict::Unsat, MARKED_COVER, Verdict::Unsat(20)),
+        ],
+    },
+    // a book that has gone over to version 5 goes on with what it has
+    Calls {
+        script: CIRCLE,
+        least_bits: 20,
+        budget: 2,
+        calls: &[
+            Call::Commit(Commit {
+                node: 0,
+                quotes: None,
+                state: &["real 0 1b1", "real 0 1b1"],
+                lines: &[
+                    ("unit 0", DONE),
+                    ("unit 1", DONE),
+                    ("unit 2", DONE),
+                    ("unit 3", DONE),
+                    ("unit 4", DONE),
+                    ("unit 5", DONE),
+                    ("cut 0 1b0", DONE),
+                ],
+                reply: Ok(Kids::Two(1, 2)),
+            }),
+            Call::Raise,
+            Call::Commit(Commit {
+                node: 1,
+                quotes: None,
+                state: &["real 0 1b0", "real 0 1b1", "yes 0 1 2 3 4 5"],
+                lines: &[("cut 0 1b-1", DONE)],
+                reply: Ok(Kids::Two(3, 4)),
+            }),
+            Call::Written(BookVerdict::UnknownBudget, RAISED_COVER, Verdict::Left(3)),
         ],
     },
     // combinations are written and confirmed

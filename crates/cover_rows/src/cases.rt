@@ -131,9 +131,32 @@ fn holds(alloc: Global, case: &Case) -> bool {
     }
 }
 
+// The same where the book has gone over to version 5.
+fn holds_raised(alloc: Global, case: &Case) -> bool {
+    if case.least_bits > 60 {
+        return false;
+    }
+    match book_of(alloc, case.script, case.least_bits, 0) {
+        Some(mut book) => {
+            book.raise();
+            holds_in(alloc, &book, case)
+        }
+        None => false,
+    }
+}
+
 fn all_hold(alloc: Global, cases: &[Case]) -> bool {
     for case in cases {
         if !holds(alloc, case) {
+            return false;
+        }
+    }
+    true
+}
+
+fn all_hold_raised(alloc: Global, cases: &[Case]) -> bool {
+    for case in cases {
+        if !holds_raised(alloc, case) {
             return false;
         }
     }
@@ -169,7 +192,11 @@ const CIRCLE_CASES: &[Case] = &[
         least_bits: 20,
         quotes: false,
         state: &["real 0 1b0", "real 0 1b1", "yes 0 1 2 3 4 5"],
-        lines: &[("cut 1 1b0", DONE)],
+        lines: &[
+            ("cut 0 1b-1", NOT_HONEST),
+            ("cut 2 1b-1", NOT_INSIDE),
+            ("cut 1 1b0", DONE),
+        ],
         wanted: Wanted::Parted(
             &["real 0 1b0", "real 0 1b0", "yes 0 1 2 3 4 5"],
             &["real 0 1b0", "real 1b0 1b1", "yes 0 1 2 3 4 5"],
@@ -212,6 +239,46 @@ const CIRCLE_CASES: &[Case] = &[
 #[test]
 fn the_widest_axis_is_cut_and_each_part_closed(rt: HostRuntime) {
     assert!(rt; all_hold(rt.alloc(), CIRCLE_CASES));
+}
+
+// ---- in version 5 each axis with a side above the least width is cut
+
+const RAISED_CASES: &[Case] = &[
+    Case {
+        script: CIRCLE,
+        least_bits: 20,
+        quotes: false,
+        state: &["real 0 1b0", "real 0 1b1", "yes 0 1 2 3 4 5"],
+        lines: &[("cut 2 1b-1", NOT_INSIDE), ("cut 0 1b-1", DONE)],
+        wanted: Wanted::Parted(
+            &["real 0 1b-1", "real 0 1b1", "yes 0 1 2 3 4 5"],
+            &["real 1b-1 1b0", "real 0 1b1", "yes 0 1 2 3 4 5"],
+        ),
+    },
+    Case {
+        script: CIRCLE,
+        least_bits: 0,
+        quotes: false,
+        state: &["real 0 1b0", "real 0 1b1", "yes 0 1 2 3 4 5"],
+        lines: &[("cut 0 1b-1", NOT_HONEST), ("cut 1 1b0", DONE)],
+        wanted: Wanted::Parted(
+            &["real 0 1b0", "real 0 1b0", "yes 0 1 2 3 4 5"],
+            &["real 0 1b0", "real 1b0 1b1", "yes 0 1 2 3 4 5"],
+        ),
+    },
+    Case {
+        script: CIRCLE,
+        least_bits: 20,
+        quotes: false,
+        state: &["real 1b0 1b0", "real 0 1b1"],
+        lines: &[("cut 0 1b0", NOT_INSIDE), ("cut 1 1b0", NOT_HONEST)],
+        wanted: Wanted::Reached(&["real 1b0 1b0", "real 0 1b1"]),
+    },
+];
+
+#[test]
+fn each_wide_axis_is_cut_in_version_5(rt: HostRuntime) {
+    assert!(rt; all_hold_raised(rt.alloc(), RAISED_CASES));
 }
 
 // ---- x * y - y * x = 1/8: what no atom narrows is cut or stuck

@@ -1,4 +1,6 @@
 // How many atoms may be combined.
+ghost use Rattle.std.specs.Prelude.{◌≤◌};
+
 use crate::patches::{NOT_COMBINABLE, book_of, led, state_of};
 use cover_book::Book;
 use cover_rule::{Narrower, Patch};
@@ -40,15 +42,19 @@ fn refuses(alloc: Global, patch: &mut Patch, count: u32, expected: bool) -> bool
     }
 }
 
-// Whether from 1 to 64 of the patch's 65 marked atoms may be combined.
-fn are_counted(alloc: Global, patch: &mut Patch) -> bool {
+// Whether the patch's first atoms may be combined from 1 to so many.
+fn are_counted(alloc: Global, patch: &mut Patch, most: u32) -> bool
+    requires { most ≤ 65 }
+{
     refuses(alloc, patch, 0, true)
-        && refuses(alloc, patch, 65, true)
-        && refuses(alloc, patch, 64, false)
+        && refuses(alloc, patch, most + 1, true)
+        && refuses(alloc, patch, most, false)
 }
 
-// The same of the book's atoms.
-fn are_counted_in(alloc: Global, book: &Book) -> bool {
+// The same of the book's 65 atoms, which are marked.
+fn are_counted_in(alloc: Global, book: &Book, most: u32) -> bool
+    requires { most ≤ 65 }
+{
     if book.problem().atoms().len() != 65 {
         return false;
     }
@@ -56,19 +62,24 @@ fn are_counted_in(alloc: Global, book: &Book) -> bool {
         return false;
     };
     match led(alloc, book, None, state, &[]) {
-        Some(mut patch) => are_counted(alloc, &mut patch),
+        Some(mut patch) => are_counted(alloc, &mut patch, most),
         None => false,
     }
 }
 
+// Whether up to 64 of the script's 65 atoms may be combined in version 2, and all of them in version 5.
 fn are_combined(alloc: Global, script: &str) -> bool {
-    match book_of(alloc, script, 20, 0) {
-        Some(book) => are_counted_in(alloc, &book),
-        None => false,
+    let Some(mut book) = book_of(alloc, script, 20, 0) else {
+        return false;
+    };
+    if !are_counted_in(alloc, &book, 64) {
+        return false;
     }
+    book.raise();
+    are_counted_in(alloc, &book, 65)
 }
 
 #[test]
-fn up_to_sixty_four_atoms_are_combined(rt: HostRuntime) {
+fn up_to_sixty_four_atoms_are_combined_and_more_in_version_5(rt: HostRuntime) {
     assert!(rt; are_combined(rt.alloc(), MANY));
 }

@@ -199,7 +199,7 @@ fn answer_by(book: &Book, lemma: &Lemma, patch: &mut Patch, line: &Line) -> Opti
     }
 }
 
-// What the patch answers to a line. It chooses the place of a cut itself.
+// What the patch answers to a line. It chooses where on its axis a cut is made.
 fn answer(book: &Book, lemma: Option<&Lemma>, patch: &mut Patch, line: &Line) -> Option<Answer>
     requires problem { patch.old.problem ≡ book.now.problem }
     requires margins { patch.old.margins ≡ margins_of book.now.options }
@@ -211,7 +211,7 @@ fn answer(book: &Book, lemma: Option<&Lemma>, patch: &mut Patch, line: &Line) ->
 {
     match line {
         Line::Rule(Rule::End(Ending::False)) => Some(patch.make_false()),
-        Line::Rule(Rule::Branch(Branching::Cut(_, _))) => Some(patch.cut()),
+        Line::Rule(Rule::Branch(Branching::Cut(axis, _))) => Some(patch.cut(*axis)),
         Line::Rule(Rule::Branch(Branching::Flip(axis))) if is_axis(book, *axis) => Some(patch.flip(
             *axis,
         )),

@@ -29,7 +29,7 @@ use Rattle.cover_data.specs.declared.kept.KeptPatch.{KeptPatch}
 use Rattle.cover_rule.specs.declared.workspace.Workspace.{Workspace}
 use Rattle.cover_rule.specs.Serves.{IsReady}
 use Rattle.cover_rule.specs.Held.{IsHeld, patch_of}
-use Rattle.cover_rule.proofs.Widest.{cut_is}
+use Rattle.cover_rule.proofs.Cuts.{cut_is}
 use Rattle.cover_data.proofs.Children.{marked_fits, can_end}
 
 -- ---- spaces of the code
@@ -256,14 +256,14 @@ module _ (P : PatchModel) (whole : IsWhole P.problem) (r : IsRunOf P) where
       ends-plain (stuck j) (not_ended P a.0) (λ lemmas. is-end (when u stays) stays (when-true u stays (both_true u v (passed (u && v) NotStuck b.0)).0) tt)
       (passed (is_honest (problem_in P) P.margins.least_bits (loosenings_in P) (now_in P) (stuck j)) NotHonest b.1) refl tt
 
-  cut-by : (o : Option Line) → cut_line (now_in P).space ≡ o → then_by (if_ended P.kept) (cut_test P o) ≡ None → IsRunOf (ended_if P o)
-  cut-by None e f = let a = neither (if_ended P.kept) (Some NotInside) f in let b = a.1 in cc
-  cut-by (Some l) e f =
-      let a = neither (if_ended P.kept) (honestly P l) f in let c = cut_is (now_in P).space l e in
-      subst (λ (x : Line). IsRunOf (ended_with P x)) (sym c.is) (run_cut c.axis c.at (not_ended P a.0) c.can (subst (λ (x : Line). honestly P x ≡ None) c.is a.1))
+  cut-by : (axis : ℕ) (o : Option Line) → cut_line axis (now_in P).space ≡ o → then_by (if_ended P.kept) (cut_test P o) ≡ None → IsRunOf (ended_if P o)
+  cut-by axis None e f = let a = neither (if_ended P.kept) (Some NotInside) f in let b = a.1 in cc
+  cut-by axis (Some l) e f =
+      let a = neither (if_ended P.kept) (honestly P l) f in let c = cut_is axis (now_in P).space l e in
+      subst (λ (x : Line). IsRunOf (ended_with P x)) (sym c.is) (run_cut axis c.at (not_ended P a.0) c.can (subst (λ (x : Line). honestly P x ≡ None) c.is a.1))
 
-  pub run_cut_by : cut_refusal P ≡ None → IsRunOf (cut_by P)
-  run_cut_by e = cut-by (cut_line (now_in P).space) refl e
+  pub run_cut_by : (axis : ℕ) → cut_refusal P axis ≡ None → IsRunOf (cut_by P axis)
+  run_cut_by axis e = cut-by axis (cut_line axis (now_in P).space) refl e
 
 -- ---- what is held
 

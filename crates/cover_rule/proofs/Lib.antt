@@ -1,5 +1,6 @@
 pub mod Axes
 mod Combinables
+pub mod Cuts
 pub mod Helds
 pub mod Knowns
 mod Narrowers
@@ -8,4 +9,3 @@ pub mod Points
 pub mod RunSteps
 pub mod Sides
 pub mod Voids
-pub mod Widest

@@ -41,11 +41,11 @@ CanNarrow p m S (Pull j) = j < length p.atoms
 CanNarrow p m S (Push j) = j < length p.atoms
 CanNarrow p m S (Combine ms) = IsTrue (can_combine (problem_of p) (loosenings_of m) S (multipliers_of ms.now))
 
--- a combination has some atoms, at most 64
+-- a combination has some atoms, at most 512
 abbrev pub IsSized : Narrower → Type 0
 IsSized (Pull j) = Unit {0}
 IsSized (Push j) = Unit {0}
-IsSized (Combine ms) = (0 < length ms.now) × (length ms.now ≤ 64)
+IsSized (Combine ms) = (0 < length ms.now) × (length ms.now ≤ 512)
 
 -- to keep it takes memory
 abbrev pub TakesMemory : Narrower → Type 0

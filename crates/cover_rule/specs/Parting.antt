@@ -14,6 +14,6 @@ use Rattle.cover_rule.specs.Refusals.{CutsAt}
 abbrev pub is_due_at : Parts → Margins → State → Bool
 is_due_at p m S = not_shown (problem_of p) (loosenings_of m) S && settled (problem_of p) (loosenings_of m) S
 
--- the widest axis is a Real one with this range, whatever the least width
-abbrev pub IsWidestRange : Space → ℕ → Range → Type 0
-IsWidestRange space axis r = (w : ℕ) → CutsAt w space axis (dyadic_of r.low) (dyadic_of r.high)
+-- the axis is a Real one with this range, and can be halved
+abbrev pub HasHalves : Space → ℕ → Range → Type 0
+HasHalves space axis r = CutsAt space axis (dyadic_of r.low) (dyadic_of r.high)

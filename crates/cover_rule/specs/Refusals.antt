@@ -1,11 +1,12 @@
 -- What a patch answers: for each step and each end the first refusal, and the patch after it where there is none.
-use Rattle.std.specs.Prelude.{◌≡◌, ◌≢◌, ◌<◌, ℕ, zero, suc, [], ◌∷◌, ◌++◌, Option, Some, None, Bool, true, false, not, ◌&&◌, is_none, length, IsTrue, Result, Ok, Err}
-use Rattle.dyadic.specs.Fraction.{Fraction, at_most, difference_of}
+use Rattle.std.specs.Prelude.{◌≡◌, ◌≢◌, ◌<◌, ℕ, zero, suc, [], ◌∷◌, ◌++◌, Option, Some, None, Bool, true, false, not, ◌&&◌, ◌||◌, cond, nat_eq, is_none, length, Result, Ok, Err}
+use Rattle.dyadic.specs.Fraction.{at_most, difference_of}
 use Rattle.dyadic.specs.Rounding.{Dyadic, exact, two_to_minus, mid}
-use Rattle.interval_model.specs.Space.{Domain, real_domain, bool_domain, Space, test_axis, strictly_inside, is_undecided, widest}
-use Rattle.cover_model.specs.State.{undecided, with_yes, with_no, with_space, may, covers}
-use Rattle.cover_model.specs.Rules.{Line, narrow_by, end_by, Narrowing, by_range, by_off_range, by_combination, void_by, unit, ban, make_false, by, cut, flip, case, stuck, is_stuck_atom}
-use Rattle.cover_model.specs.Honest.{is_honest, is_wide, is_middle_at, is_small, is_some_space}
+use Rattle.interval_model.specs.Space.{Domain, real_domain, bool_domain, Space, can_be_halved, test_axis, is_undecided, widest}
+use Rattle.ival.specs.BestViews.{axis_of}
+use Rattle.cover_model.specs.State.{Loosenings, undecided, with_yes, with_no, with_space, may, covers}
+use Rattle.cover_model.specs.Rules.{Line, has_version_5, narrow_by, end_by, Narrowing, by_range, by_off_range, by_combination, void_by, unit, ban, make_false, by, cut, flip, case, stuck, is_stuck_atom}
+use Rattle.cover_model.specs.Honest.{is_honest, may_be_cut, is_middle_at, is_small, is_some_space}
 use Rattle.cover_rule.specs.declared.refusal.PatchRefusal.{PatchRefusal}
 use Rattle.cover_rule.specs.declared.refusal.PatchRefusal.TheVariants.{NotYes, NotForced, NotCovered, NotFalse, NotInside, NotStuck, NotHonest, Ended, IsVoid, Decided, NotNo, NotCombinable, Memory}
 use Rattle.cover_data.specs.Models.{LemmaModel, KeptModel}
@@ -89,37 +90,45 @@ covered_by P L = with_kept P (covered P.kept L)
 
 -- ---- ends that branch, and the end of a stuck state
 
-abbrev pub axis_middle : ℕ → Space → Option Dyadic
-axis_middle axis [] = None
-axis_middle zero (real_domain l h ∷ space) = Some (mid l h)
-axis_middle zero (bool_domain f t ∷ space) = None
-axis_middle (suc axis) (d ∷ space) = axis_middle axis space
+abbrev pub is_axis : ℕ → Option ℕ → Bool
+is_axis axis None = false
+is_axis axis (Some best) = nat_eq axis best
+
+-- the first axis of greatest side among those that can be halved
+abbrev pub is_widest : ℕ → Space → Bool
+is_widest axis space = is_axis axis (axis_of (widest space))
+
+-- the middle of a Real axis that can be halved, none of another domain
+abbrev pub half_of : Domain → Option Dyadic
+half_of (real_domain l h) = cond (can_be_halved (real_domain l h)) (Some (mid l h)) None
+half_of (bool_domain f t) = None
+
+abbrev pub half_at : ℕ → Space → Option Dyadic
+half_at axis [] = None
+half_at zero (d ∷ space) = half_of d
+half_at (suc axis) (d ∷ space) = half_at axis space
 
 abbrev pub cut_of : ℕ → Option Dyadic → Option Line
 cut_of axis None = None
 cut_of axis (Some c) = Some (cut axis c)
 
-abbrev pub cut_from : Option (ℕ × Fraction) → Space → Option Line
-cut_from None space = None
-cut_from (Some (axis, v)) space = cut_of axis (axis_middle axis space)
-
--- the cut of the widest axis at its middle, none where no axis can be halved
-abbrev pub cut_line : Space → Option Line
-cut_line space = cut_from (widest space) space
+-- the cut of the axis at its middle, none where it is no Real one that can be halved
+abbrev pub cut_line : ℕ → Space → Option Line
+cut_line axis space = cut_of axis (half_at axis space)
 
 abbrev pub cut_test : PatchModel → Option Line → Option PatchRefusal
 cut_test P None = Some NotInside
 cut_test P (Some l) = honestly P l
 
-abbrev pub cut_refusal : PatchModel → Option PatchRefusal
-cut_refusal P = then_by (if_ended P.kept) (cut_test P (cut_line (now_in P).space))
+abbrev pub cut_refusal : PatchModel → ℕ → Option PatchRefusal
+cut_refusal P axis = then_by (if_ended P.kept) (cut_test P (cut_line axis (now_in P).space))
 
 abbrev pub ended_if : PatchModel → Option Line → PatchModel
 ended_if P None = P
 ended_if P (Some l) = ended_with P l
 
-abbrev pub cut_by : PatchModel → PatchModel
-cut_by P = ended_if P (cut_line (now_in P).space)
+abbrev pub cut_by : PatchModel → ℕ → PatchModel
+cut_by P axis = ended_if P (cut_line axis (now_in P).space)
 
 -- a Bool axis with one value left, or none
 abbrev pub is_decided : Domain → Bool
@@ -182,8 +191,8 @@ FalseEnd P Q r = EndAnswer (false_refusal P) P (ended_with P make_false) Q r
 abbrev pub LemmaEnd : PatchModel → LemmaModel → PatchModel → Result (Unit {0}) PatchRefusal → Type 0
 LemmaEnd P L Q r = PatchAnswer (by_refusal P.kept L) P (covered_by P L) Q r
 
-abbrev pub CutEnd : PatchModel → PatchModel → Result (Unit {0}) PatchRefusal → Type 0
-CutEnd P Q r = EndAnswer (cut_refusal P) P (cut_by P) Q r
+abbrev pub CutEnd : PatchModel → ℕ → PatchModel → Result (Unit {0}) PatchRefusal → Type 0
+CutEnd P axis Q r = EndAnswer (cut_refusal P axis) P (cut_by P axis) Q r
 
 abbrev pub FlipEnd : PatchModel → ℕ → PatchModel → Result (Unit {0}) PatchRefusal → Type 0
 FlipEnd P i Q r = EndAnswer (flip_refusal P i) P (ended_with P (flip i)) Q r
@@ -201,10 +210,10 @@ RunBanStep k j L k' r = PatchAnswer (ban_refusal k j L) k (banned k j L) k' r
 abbrev pub RunLemmaEnd : KeptModel → LemmaModel → KeptModel → Result (Unit {0}) PatchRefusal → Type 0
 RunLemmaEnd k L k' r = PatchAnswer (by_refusal k L) k (covered k L) k' r
 
--- the widest axis is a Real one with these ends, whose middle lies strictly between them; it is wide where its side is above 2^-w
-pub record CutsAt (w : ℕ) (space : Space) (axis : ℕ) (l h : Dyadic) : Type 0 where
+-- the axis is a Real one with these ends, whose middle lies strictly between them
+pub record CutsAt (space : Space) (axis : ℕ) (l h : Dyadic) : Type 0 where
   pub inside : axis < length space
-  pub line : cut_line space ≡ Some (cut axis (mid l h))
-  pub can : IsTrue (test_axis (strictly_inside (mid l h)) axis space)
-  pub wide : is_wide w axis (widest space) ≡ not (at_most (difference_of (exact h) (exact l)) (exact (two_to_minus w)))
+  pub line : cut_line axis space ≡ Some (cut axis (mid l h))
   pub middle : is_middle_at axis (mid l h) space ≡ true
+  pub may : (w : ℕ) (s : Loosenings) → may_be_cut w s axis space ≡
+      (not (at_most (difference_of (exact h) (exact l)) (exact (two_to_minus w))) && (has_version_5 s || is_widest axis space))

@@ -5,20 +5,20 @@ ghost use Rattle.cover_model.specs.Fits.{FitsProblem};
 ghost use Rattle.cover_model.specs.State.{misses, margin_of, undecided};
 ghost use Rattle.cover_model.specs.Rules.{flip, case, stuck};
 ghost use Rattle.interval_model.specs.Space.{is_undecided, test_axis};
-ghost use Rattle.cover_model.specs.Honest.{is_honest};
+ghost use Rattle.cover_model.specs.Honest.{is_honest, may_be_cut};
 ghost use Rattle.dyadic.specs.Views.{dyadic_of};
 ghost use Rattle.ival.specs.SpaceViews.{space_of, domain_of};
 ghost use Rattle.cover_data.specs.Margins.{AreMargins, loosenings_of};
 ghost use Rattle.cover_rule.specs.Serves.{HasRowsOf, IsReady, IsNumbered};
-ghost use Rattle.cover_rule.specs.Refusals.{FlipEnd, CaseEnd, StuckEnd, CutEnd, cut_line, is_decided};
-ghost use Rattle.cover_rule.specs.Parting.{is_due_at, IsWidestRange};
+ghost use Rattle.cover_rule.specs.Refusals.{FlipEnd, CaseEnd, StuckEnd, CutEnd, cut_line, is_decided, is_widest};
+ghost use Rattle.cover_rule.specs.Parting.{is_due_at, HasHalves};
 ghost use Rattle.cover_data.specs.Views.{kept_of};
 ghost use Rattle.cover_rule.specs.Held.{IsHeld, patch_of};
 
 use crate::ends::end_by;
 use crate::facts::problem_is_whole;
 use crate::refusal::PatchRefusal;
-use crate::small::{has_small_side, is_small};
+use crate::small::{can_be_halved, has_small_side, is_small};
 use crate::steps::may_without;
 use crate::stuck::{is_settled, is_stuck_atom, none_stuck_below};
 use crate::truth::is_not_shown;
@@ -231,46 +231,81 @@ pub fn stuck(
     Ok(())
 }
 
-// The widest axis with its numbers, if there is one that can be halved.
-fn widest_range(space: &Space) -> Option<(usize, Range)>
-    ensures none { IsNone result → cut_line (space_of space.now) ≡ None }
-    ensures found { IfSome result (λ f. IsWidestRange (space_of space.now) f.0 f.1) }
+// The range of the axis, if it is a Real one that can be halved.
+fn halved_range(space: &Space, axis: u32) -> Option<Range>
+    ensures none { IsNone result → cut_line axis (space_of space.now) ≡ None }
+    ensures found { IfSome result (HasHalves (space_of space.now) axis) }
 {
-    match space.widest() {
-        None => None,
-        Some(axis) => match space.get(axis) {
-            Domain::Real(range) => Some((axis, range)),
-            Domain::Bool(_) => unreachable!(),
-        },
+    let axis = axis as usize;
+    if axis >= space.len() {
+        return None;
+    }
+    match space.get(axis) {
+        Domain::Real(range) => {
+            if can_be_halved(range) {
+                Some(range)
+            } else {
+                None
+            }
+        }
+        Domain::Bool(_) => None,
     }
 }
 
-/// Ends the patch by cutting the widest axis at its middle.
+// Whether it is the first axis of greatest side among those that can be halved.
+fn is_widest(space: &Space, axis: u32) -> bool
+    ensures { result ≡ is_widest axis (space_of space.now) }
+{
+    match space.widest() {
+        Some(widest) => axis as usize == widest,
+        None => false,
+    }
+}
+
+// Whether the side of the axis, whose range this is, is above the least width, and it is the widest one where the
+// version asks for that.
+fn may_be_cut(space: &Space, margins: &Margins, axis: u32, range: Range) -> bool
+    requires margins { AreMargins margins.now }
+    requires range { HasHalves (space_of space.now) axis range }
+    ensures { let s = loosenings_of margins.now in
+        result ≡ may_be_cut margins.now.least_bits s axis (space_of space.now) }
+{
+    if has_small_side(range, margins.least_bits) {
+        return false;
+    }
+    if margins.version >= 5 {
+        return true;
+    }
+    is_widest(space, axis)
+}
+
+/// Ends the patch by cutting the axis at its middle.
 pub fn cut(
     problem: &Problem,
     margins: &Margins,
     kept: &mut KeptPatch,
     work: &mut Workspace,
+    axis: u32,
 ) -> Result<(), PatchRefusal>
     requires held { IsHeld problem.now margins.now kept.old work.old }
     ensures answer { let P = patch_of problem.now margins.now in
-        CutEnd (P kept.old) (P kept.new) result }
+        CutEnd (P kept.old) axis (P kept.new) result }
     ensures reached { kept.new.reached ≡ kept.old.reached }
     ensures ready { IsReady problem.now margins.now kept.old.reached.space work.new }
 {
     if kept.end.is_some() {
         return Err(PatchRefusal::Ended);
     }
-    let Some((axis, range)) = widest_range(kept.reached.space()) else {
+    let Some(range) = halved_range(kept.reached.space(), axis) else {
         return Err(PatchRefusal::NotInside);
     };
+    if !may_be_cut(kept.reached.space(), margins, axis, range) {
+        return Err(PatchRefusal::NotHonest);
+    }
     if !is_due(problem, margins, &kept.reached, work) {
         return Err(PatchRefusal::NotHonest);
     }
-    if has_small_side(range, margins.least_bits) {
-        return Err(PatchRefusal::NotHonest);
-    }
-    let cut = Branching::Cut(axis as u32, mid(range.low, range.high));
+    let cut = Branching::Cut(axis, mid(range.low, range.high));
     end_by(kept, End::Part(cut));
     Ok(())
 }

@@ -28,9 +28,9 @@ pub fn can_combine(
     ensures may { let ms = multipliers_of multipliers.now in
         result ≡ can_combine (problem_of problem.now) (loosenings_of margins.now) state.now ms }
     ensures some { result ≡ true → 0 < length multipliers.now }
-    ensures few { result ≡ true → length multipliers.now ≤ 64 }
+    ensures few { result ≡ true → length multipliers.now ≤ 512 }
 {
-    form_truth::can_combine(problem, state.lits(), multipliers)
+    form_truth::can_combine(problem, state.lits(), multipliers, margins.version)
 }
 
 // Narrows the spare space, a copy of the state's, by a combination of atoms that may be made.

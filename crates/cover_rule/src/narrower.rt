@@ -1,12 +1,12 @@
 // What a space is narrowed by, and what that leaves of it.
-ghost use Rattle.std.specs.Prelude.{◌≡◌, ◌≢◌, true, not, IfOk, OnErr};
+ghost use Rattle.std.specs.Prelude.{◌≡◌, ◌≢◌, ◌<◌, length, true, not, IfOk, OnErr};
 ghost use Rattle.poly_graph.specs.ProblemViews.{problem_of};
 ghost use Rattle.cover_model.specs.Fits.{FitsProblem};
 ghost use Rattle.cover_model.specs.Honest.{is_some_space};
 ghost use Rattle.ival.specs.Narrows.{IsNarrowed};
 ghost use Rattle.ival.specs.SpaceViews.{space_of};
-ghost use Rattle.cover_data.specs.Margins.{AreMargins};
-ghost use Rattle.cover_model.specs.Rules.{end_by, narrow_by, void_by};
+ghost use Rattle.cover_data.specs.Margins.{AreMargins, loosenings_of};
+ghost use Rattle.cover_model.specs.Rules.{can_push, end_by, narrow_by, void_by};
 ghost use Rattle.cover_data.specs.Views as views;
 ghost use Rattle.cover_data.specs.Views.{end_line, step_line};
 ghost use Rattle.cover_rule.specs.declared.refusal.PatchRefusal.TheVariants as refusal;
@@ -36,7 +36,16 @@ pub enum Narrower<'a> {
     Combine(&'a [(u32, Dy)]),
 }
 
-/// Whether the marks of the state allow it.
+// Whether the version has such lines, and atom j is marked no and is an inequality.
+fn can_push(problem: &Problem, margins: &Margins, state: &State, j: u32) -> bool
+    requires state { FitsProblem (problem_of problem.now) state.now }
+    requires atom { j < length problem.now.atoms }
+    ensures { result ≡ can_push (problem_of problem.now) (loosenings_of margins.now) state.now j }
+{
+    margins.version >= 2 && is_no_one_sided(problem, state, j)
+}
+
+/// Whether the version and the marks of the state allow it.
 pub fn may_narrow(problem: &Problem, margins: &Margins, state: &State, by: Narrower) -> bool
     requires state { FitsProblem (problem_of problem.now) state.now }
     requires atom { NamesAtom problem.now by }
@@ -45,7 +54,7 @@ pub fn may_narrow(problem: &Problem, margins: &Margins, state: &State, by: Narro
 {
     match by {
         Narrower::Pull(j) => state.is_yes(j),
-        Narrower::Push(j) => is_no_one_sided(problem, state, j),
+        Narrower::Push(j) => can_push(problem, margins, state, j),
         Narrower::Combine(multipliers) => can_combine(problem, margins, state, multipliers),
     }
 }

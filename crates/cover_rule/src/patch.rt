@@ -3,6 +3,8 @@ ghost use Rattle.std.specs.Prelude.{◌≡◌, ◌<◌, ◌↔◌, length, IfOk,
 ghost use Rattle.poly_graph.specs.ProblemViews.{problem_of};
 ghost use Rattle.cover_model.specs.Fits.{FitsProblem};
 ghost use Rattle.cover_model.specs.Narrowed.{enclosures};
+ghost use Rattle.interval_model.specs.Space.{widest};
+ghost use Rattle.ival.specs.BestViews.{axis_of};
 ghost use Rattle.ival.specs.RowViews.{rows_of};
 ghost use Rattle.ival.specs.SpaceViews.{space_of};
 ghost use Rattle.cover_data.specs.Margins.{AreMargins};
@@ -136,6 +138,16 @@ impl<'a> Patch<'a> {
         ensures run { IsRunOf self.now }
     {
         &self.kept.reached
+    }
+
+    /// The first axis of greatest side, among those that can be halved, of the space that it has reached.
+    pub fn widest(&self) -> Option<u32>
+        ensures { result ≡ axis_of (widest self.now.kept.reached.space) }
+    {
+        match self.kept.reached.space().widest() {
+            Some(axis) => Some(axis as u32),
+            None => None,
+        }
     }
 
     /// The enclosures of the problem's terms over the space that it has reached.
@@ -300,11 +312,18 @@ impl<'a> Patch<'a> {
         ends::by(self.alloc, &mut self.kept, lemma)
     }
 
-    /// Ends the patch by cutting the widest axis at its middle: the lower part, then the upper one.
-    pub fn cut(&mut self) -> Result<(), PatchRefusal>
-        ensures { CutEnd self.old self.new result }
+    /// Ends the patch by cutting the axis at its middle: the lower part, then the upper one. In version 2 only the
+    /// widest axis may be cut.
+    pub fn cut(&mut self, axis: u32) -> Result<(), PatchRefusal>
+        ensures { CutEnd self.old axis self.new result }
     {
-        branches::cut(self.problem, &self.margins, &mut self.kept, &mut self.work)
+        branches::cut(
+            self.problem,
+            &self.margins,
+            &mut self.kept,
+            &mut self.work,
+            axis,
+        )
     }
 
     /// Ends the patch by parting the Bool axis, which is not decided: false, then true.

@@ -12,7 +12,7 @@ pub enum PatchRefusal {
     NotCovered,
     /// Something is left.
     NotFalse,
-    /// There is no such axis to part: none that can be halved, or not a Bool one.
+    /// There is no such axis to part: not a Real one that can be halved, or not a Bool one.
     NotInside,
     /// The atom is not a stuck one, or an axis is not small or a Bool not decided.
     NotStuck,
@@ -27,7 +27,7 @@ pub enum PatchRefusal {
     /// The atom is not marked no, or is an equation.
     NotNo,
     /// The atoms can't be combined: one is not marked, or an equation that is marked no; or they do not ascend, a
-    /// multiplier is 0, or there are none or more than 64.
+    /// multiplier is 0, or there are none or more than the version allows.
     NotCombinable,
     /// Out of memory.
     Memory,

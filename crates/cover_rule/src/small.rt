@@ -24,8 +24,8 @@ pub fn has_small_side(range: Range, bits: u32) -> bool
     )
 }
 
-// Whether the middle lies strictly between the ends.
-fn can_be_halved(range: Range) -> bool
+/// Whether the middle lies strictly between the ends.
+pub fn can_be_halved(range: Range) -> bool
     ensures { result ≡ can_be_halved (real_domain (dyadic_of range.low) (dyadic_of range.high)) }
 {
     let middle = mid(range.low, range.high);

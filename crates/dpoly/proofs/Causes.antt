@@ -1,5 +1,5 @@
 -- Why a search for a least value ends, by the covers of its searches.
-use Rattle.std.proofs.Common.{◌≡◌, ◌≢◌, ℕ, suc, ◌+◌, List, [], ◌∷◌, ◌++◌, Bool, true, false, cond, true≢false, IsTrue, Option, Some, None, refl, ap, sym, ◌∙◌, subst, arith}
+use Rattle.std.proofs.Common.{◌≡◌, ℕ, suc, ◌+◌, List, [], ◌∷◌, ◌++◌, Bool, true, false, cond, true≢false, IsTrue, Option, Some, None, refl, ap, sym, ◌∙◌, subst, arith}
 use Rattle.std.specs.Prelude.{IfSome, is_some, sum_by}
 use Rattle.std.specs.List.{All}
 use Rattle.std.proofs.lemmas.List.Elements.{All-cons, All-head, All-nil, All-tail}
@@ -12,9 +12,9 @@ use Rattle.poly_graph.specs.ProblemViews.{Parts, problem_of}
 use Rattle.cover_model.specs.Fits.{IsShownAt}
 use Rattle.cover_model.specs.Honest.{is_honest}
 use Rattle.cover_model.specs.Space.{IsGridSpace}
-use Rattle.cover_model.specs.State.{State, Loosenings, root_state}
+use Rattle.cover_model.specs.State.{State, Loosenings, in_version, root_state}
 use Rattle.cover_data.specs.declared.margins.Margins.{Margins}
-use Rattle.cover_data.specs.Margins.{margins_of, loosenings_of as of_margins}
+use Rattle.cover_data.specs.Margins.{margins_in, margins_of, loosenings_of as of_margins}
 use Rattle.cert_model.specs.AnswerText.{has_open}
 use Rattle.cert_model.specs.Due.{Standing, is_crossed_box, is_some_axis}
 use Rattle.cert_model.specs.Laws.{IsLawfulCover}
@@ -39,9 +39,19 @@ use Rattle.check_run.specs.Answer.{loosenings_of}
 use Rattle.check_run.specs.Bounds.{cause_of}
 use Rattle.check_run.specs.Causes.{AreUsed, HonestCover, IsHonestButOpen, IsHonestThroughout, IsLimitBetween, IsNarrow, IsUsed, LimitSearch, Searches, cost_of, left_by, left_of}
 use Rattle.check_run.specs.Minimized.{IsCauseFor}
-use Rattle.dpoly.specs.Minimize.{told_cause}
-use Rattle.dpoly.specs.Search.{search_options}
+use Rattle.dpoly.specs.Minimize.{first_options, told_cause}
 use Rattle.dpoly.proofs.SearchAnswers.{stuck_in_width}
+use Rattle.dpoly.proofs.SessionAnswers.{lines_version}
+
+-- ---- points
+
+-- a point is shown in one version as in another
+pub shown_again : (p : Problem) (s : Loosenings) (v w : ℕ) (x : Space) → IsShownAt p (in_version v s) x → IsShownAt p (in_version w s) x
+shown_again p s v w x h = record { single = h.single; surely = h.surely; near = h.near }
+
+some-again : (p : Problem) (s : Loosenings) (v w : ℕ) (o : Option Space) → IfSome o (IsShownAt p (in_version v s)) → IfSome o (IsShownAt p (in_version w s))
+some-again p s v w None h = tt
+some-again p s v w (Some x) h = shown_again p s v w x h
 
 -- ---- the cover of a book
 
@@ -86,7 +96,8 @@ own_cover b w none rooted due clear =
     }
 
 -- the same by a problem and options of which the book is
-cover_as : (b : BookModel) → IsBook b → b.kept ≡ [] → IsOfRoot b → LeavesDue b → (p : Problem) → problem_in b ≡ p → (o : Options) → margins_of b.options ≡ margins_of (search_options o) → first_crossed p ≡ None → BookCover b p (loosenings_of o) o.least_bits
+cover_as : (b : BookModel) → IsBook b → b.kept ≡ [] → IsOfRoot b → LeavesDue b → (p : Problem) → problem_in b ≡ p → (o : Options) → margins_of b.options ≡ margins_in b.options.version (margins_of (first_options o)) → first_crossed p ≡ None →
+    BookCover b p (in_version b.options.version (loosenings_of o)) o.least_bits
 cover_as b w none rooted due p is o asked clear =
     let here : BookCover b (problem_in b) (loosenings_in b) b.options.least_bits = own_cover b w none rooted due (ap first_crossed is ∙ clear) in
     subst (λ (m : Margins). BookCover b p (of_margins m) m.least_bits) asked (subst (λ (q : Problem). BookCover b q (loosenings_in b) b.options.least_bits) is here)
@@ -114,11 +125,21 @@ module _ (q : Parts) (g : ℕ) (o : Options) (clear : first_crossed (problem_of 
     opens : has_open (left_of (problem_of q) g o limit_search) ≡ has_live b
     nothing : left_of (problem_of q) g o limit_search ≡ [] → has_stuck b ≡ false
 
-  limit_cover : (b : BookModel) (k : ℕ) (d : Dyadic) → found.IsLimitSearch q g (search_options o) k d b → LimitCover b d
+  limit_cover : (b : BookModel) (k : ℕ) (d : Dyadic) → found.IsLimitSearch q g (first_options o) k d b → LimitCover b d
   limit_cover b k d h =
       let x = cover_as b h.book h.alone h.root h.left (limited (problem_of q) g k d) h.problem o h.margins clear in
       record {
-        limit_search = record { bits = k; limit = d; takes = h.takes; cover = x.cover; point = b.point; sure = x.sure; honest = x.honest };
+        limit_search = record {
+          version = b.options.version;
+          is_version = lines_version b.options.version h.book.limits.margins.version_is;
+          bits = k;
+          limit = d;
+          takes = h.takes;
+          cover = x.cover;
+          point = b.point;
+          sure = some-again (limited (problem_of q) g k d) (loosenings_of o) b.options.version 2 b.point x.sure;
+          honest = x.honest;
+        };
         is_limit = refl;
         is_point = refl;
         cost = x.branches;
@@ -128,7 +149,7 @@ module _ (q : Parts) (g : ℕ) (o : Options) (clear : first_crossed (problem_of 
 
   -- what it found is in the bounds
   module _ (s : Span) where
-    limit_used : (b : BookModel) (h : found.IsUsed q g (search_options o) (lower_end s.low) s.high b) → IsUsed (problem_of q) g o s (limit_cover b h.bits h.limit h.searched).limit_search
+    limit_used : (b : BookModel) (h : found.IsUsed q g (first_options o) (lower_end s.low) s.high b) → IsUsed (problem_of q) g o s (limit_cover b h.bits h.limit h.searched).limit_search
     limit_used b h =
         let p : Problem = problem_of q in
         let x = limit_cover b h.bits h.limit h.searched in
@@ -146,10 +167,10 @@ module _ (q : Parts) (g : ℕ) (o : Options) (clear : first_crossed (problem_of 
       cost : sum_by (λ (y : Limited). suc (tree_branches y.cover.tree)) searches ≡ found.cost_of books
       used : All (IsUsed (problem_of q) g o s) searches
 
-    later_covers : (books : List BookModel) → All (found.IsUsed q g (search_options o) (lower_end s.low) s.high) books → LaterCovers books
+    later_covers : (books : List BookModel) → All (found.IsUsed q g (first_options o) (lower_end s.low) s.high) books → LaterCovers books
     later_covers [] h = record { searches = []; cost = refl; used = All-nil (IsUsed (problem_of q) g o s) }
     later_covers (b ∷ books) h =
-        let P : BookModel → Type 0 = found.IsUsed q g (search_options o) (lower_end s.low) s.high in
+        let P : BookModel → Type 0 = found.IsUsed q g (first_options o) (lower_end s.low) s.high in
         let at = All-head P b books h in
         let here = limit_cover b at.bits at.limit at.searched in
         let rest = later_covers books (All-tail P b books h) in
@@ -165,7 +186,7 @@ module _ (q : Parts) (g : ℕ) (o : Options) (clear : first_crossed (problem_of 
       pub cost : cost_of (problem_of q) g o searches + left ≡ o.budget
       pub used : AreUsed (problem_of q) g o s searches
 
-    pub all_covers : (left : ℕ) (h : found.Leaves q g (search_options o) left) → found.AreUsed q g (search_options o) (lower_end s.low) s.high h.first h.later → AllCovers left
+    pub all_covers : (left : ℕ) (h : found.Leaves q g (first_options o) left) → found.AreUsed q g (first_options o) (lower_end s.low) s.high h.first h.later → AllCovers left
     all_covers left h used =
         let b : BookModel = h.first in
         let is = h.is_first in
@@ -173,16 +194,19 @@ module _ (q : Parts) (g : ℕ) (o : Options) (clear : first_crossed (problem_of 
         let rest = later_covers h.later used.all in
         record {
           searches = record {
+            version = b.options.version;
+            is_version = lines_version b.options.version is.book.limits.margins.version_is;
             first = x.cover;
             start = used.start;
-            sure = subst (λ (y : Option Space). IfSome y (IsShownAt (problem_of q) (loosenings_of o))) used.kept x.sure;
+            sure = subst (λ (y : Option Space). IfSome y (IsShownAt (problem_of q) (loosenings_of o))) used.kept
+                (some-again (problem_of q) (loosenings_of o) b.options.version 2 b.point x.sure);
             later = rest.searches;
           };
           cost = omega (arith, x.branches, rest.cost, h.sum);
           used = record { first = used.best; later = rest.used };
         }
 
-    narrow_cover : found.IsNarrow q g (search_options o) s → IsNarrow (problem_of q) g o s
+    narrow_cover : found.IsNarrow q g (first_options o) s → IsNarrow (problem_of q) g o s
     narrow_cover h =
         let x = limit_cover h.book h.bits h.limit h.searched in
         let stuck = stuck_in_width h.book h.narrow in
@@ -194,7 +218,7 @@ module _ (q : Parts) (g : ℕ) (o : Options) (clear : first_crossed (problem_of 
         }
 
     -- each ending is told as what it is
-    pub ending_told : (left : ℕ) (e : Ending) → found.EndsFor q g (search_options o) left s e → (x : AllCovers left) → IsCauseFor (problem_of q) g o s x.searches (cause_of (told_cause e))
+    pub ending_told : (left : ℕ) (e : Ending) → found.EndsFor q g (first_options o) left s e → (x : AllCovers left) → IsCauseFor (problem_of q) g o s x.searches (cause_of (told_cause e))
     ending_told left Minimum h x = h
     ending_told left Budget h x = omega (arith, x.cost, h)
     ending_told left Width h x = narrow_cover h

@@ -1,6 +1,7 @@
 pub mod ReadAlone
 pub mod Causes
 pub mod Demo
+pub mod GoalUpgrading
 pub mod Halting
 pub mod Joining
 pub mod Minimizing

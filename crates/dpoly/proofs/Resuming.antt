@@ -1,11 +1,11 @@
 -- From a certificate that was read to the one that goes on from it.
-use Rattle.std.proofs.Common.{◌≡◌, inl, inr, ◌⊎◌, ◌≤◌, ℕ, zero, suc, List, [], ◌∷◌, Bool, true, false, Option, IsTrue, length, refl, ap, sym, ◌∙◌, subst}
+use Rattle.std.proofs.Common.{◌≡◌, inl, inr, ◌⊎◌, ◌≤◌, ℕ, zero, suc, List, [], ◌∷◌, Bool, true, false, cond, nat_le, Option, IsTrue, length, refl, ap, sym, ◌∙◌, subst}
 use Rattle.desk.specs.Sight.{Sight}
 use Rattle.command_line.specs.Words.{Resume, IsResume}
 use Rattle.poly_graph.specs.Problem.{Problem}
 use Rattle.poly_graph.specs.ProblemViews.{Parts, problem_of}
 use Rattle.interval_model.specs.Space.{Space}
-use Rattle.cover_model.specs.State.{State, Loosenings}
+use Rattle.cover_model.specs.State.{State, Loosenings, in_version}
 use Rattle.cover_book.specs.Limits.{IsWithinLimits}
 use Rattle.cert_model.specs.Due.{Standing, Value, at_point, left_open}
 use Rattle.cert_model.specs.Accepted.{IsAccepted, Verdict, accepted, refused, verdict, most_bytes}
@@ -13,16 +13,17 @@ use Rattle.cert_model.specs.AnswerText.{has_open, budget_text, delta_sat_text, u
 use Rattle.cert_model.specs.Session.{one_verdict}
 use Rattle.cert_model.proofs.Header.{header_fits}
 use Rattle.cert_text.specs.Stuck.{stuck_at}
-use Rattle.cert_upgrade.specs.Upgraded.{in_newest, upgraded}
+use Rattle.cert_model.proofs.Header.{accepted_fits, version_limits}
+use Rattle.cert_upgrade.specs.Upgraded.{upgraded}
 use Rattle.cert_upgrade.proofs.Upgrades.{upgraded_is_accepted}
-use Rattle.cert_resumed.specs.Resumed.{CoverRead, joined, own_left}
+use Rattle.cert_resumed.specs.Resumed.{IsVersionBehind, joined, own_left}
 use Rattle.cert_base.specs.declared.base.Base.{Base}
 use Rattle.cert_base.specs.Base.{IsBase}
 use Rattle.cert_base.specs.Gathered.{standing_states}
 use Rattle.cert_check.specs.declared.fault.CertFault.{CertFault}
 use Rattle.cert_check.specs.Feeding.{IsRefusalOrMemory}
 use Rattle.cert_resume.specs.Answer.{TellsOfOwn, IsResumedCover, IsResumedPoint}
-use Rattle.cert_resume.specs.Request.{loosenings_in, options_of}
+use Rattle.cert_resume.specs.Request.{options_of}
 use Rattle.cert_resume.specs.declared.answer.Cover.{Cover}
 use Rattle.cert_resume.specs.declared.answer.Own.{Own}
 use Rattle.cert_resume.specs.declared.answer.Own.TheVariants as own
@@ -78,29 +79,28 @@ module _ (p : Problem) (b : Option ℕ) (words : Resume) (cert_in cert : List �
   goes [] h more = absurd (h refl)
   goes (x ∷ xs) h more = more
 
--- margin and delta of the base, under version 2
-base-newest : (base : Base) (c : CoverRead) → record { margin_bits = base.margin; delta_bits = base.delta; version = base.version } ≡ c.loosenings → loosenings_in base ≡ in_newest 1 c.loosenings
-base-newest base c e = ap (λ (s : Loosenings). in_newest 1 s) e
-
 left-some : (p : Problem) (cert : List ℕ) (base : Base) (h : IsBase p base.bound cert base) → standing_states h.read.left ≡ [] → ⊥
 left-some p cert base h e = h.some (h.of.left ∙ e)
 
 -- ---- what goes on from a cover
 
 pub found-more : (p : Problem) (words : Resume) (cert_in : List ℕ) (base : Base) (cert text : List ℕ) (space : Space) (told : SearchAnswer) → told.cert.items ≡ cert → told.text.items ≡ text → IsBase p base.bound cert_in base →
-    IsResumedPoint p base.bound (loosenings_in base) cert space → AtDelta base.delta (λ s. text ≡ delta_sat_text p s space) → TellsMore p base.bound words cert_in told
+    IsResumedPoint p base cert space → AtDelta base.delta (λ s. text ≡ delta_sat_text p s space) → TellsMore p base.bound words cert_in told
 found-more p words cert_in base cert text space told c t h found says =
     let s = h.read.loosenings in
-    let newest = base-newest base h.read h.of.loosenings in
+    let same = h.of.loosenings in
     record {
       loosenings = s;
       read = left_open h.read.left;
       accepted = h.is_read.accepted;
       more = record {
+        version = found.version;
+        behind = subst (λ (l : Loosenings). IsVersionBehind l.version found.version) same found.behind;
         value = at_point space;
-        accepted = subst (λ (bs : List ℕ). IsAccepted p base.bound bs (in_newest 1 s) (at_point space)) (sym c) (subst (λ (l : Loosenings). IsAccepted p base.bound cert l (at_point space)) newest found.accepted);
+        accepted = subst (λ (bs : List ℕ). IsAccepted p base.bound bs (in_version found.version s) (at_point space)) (sym c)
+            (subst (λ (l : Loosenings). IsAccepted p base.bound cert (in_version found.version l) (at_point space)) same found.accepted);
         goes_on = goes p base.bound words cert_in told.cert.items s (at_point space) told.text.items h.read.left (left-some p cert_in base h)
-            (inl (record { space = space; value = refl; answer = t ∙ says (in_newest 1 s) (sym (ap (λ (l : Loosenings). l.delta_bits) newest)) }));
+            (inl (record { space = space; value = refl; answer = t ∙ says s (sym (ap (λ (l : Loosenings). l.delta_bits) same)) }));
       };
     }
 
@@ -110,60 +110,69 @@ covered-more p words cert_in base x text told c t h so says =
     let s = h.read.loosenings in
     let r = so.resumption in
     let same = same-verdict p base.bound cert_in r.read.loosenings s (left_open r.read.left) (left_open h.read.left) r.is_read.accepted h.is_read.accepted in
-    let newest = base-newest base h.read h.of.loosenings in
+    let own : List Standing = own_left (share_of words) 0 (trees_left p base.bound words cert_in x.cert.items r) in
     let W : List ℕ → Type 0 = λ bs. IsMore p base.bound words cert_in s (left_open h.read.left) bs told.text.items in
     record {
       loosenings = s;
       read = left_open h.read.left;
       accepted = h.is_read.accepted;
       more = subst W (sym c) (record {
+        version = r.version;
+        behind = subst (λ (l : Loosenings). IsVersionBehind l.version r.version) same.0 r.behind;
         value = left_open (joined (trees_left p base.bound words cert_in x.cert.items r));
-        accepted = subst (λ (l : Loosenings). IsAccepted p base.bound x.cert.items (in_newest 1 l) (left_open (joined (trees_left p base.bound words cert_in x.cert.items r)))) same.0 r.accepted;
+        accepted = subst (λ (l : Loosenings). IsAccepted p base.bound x.cert.items (in_version r.version l) (left_open (joined (trees_left p base.bound words cert_in x.cert.items r)))) same.0 r.accepted;
         goes_on = goes p base.bound words cert_in x.cert.items s (left_open (joined (trees_left p base.bound words cert_in x.cert.items r))) told.text.items h.read.left (left-some p cert_in base h)
             (inr (record {
               resumed = r;
               value = refl;
-              answer = t ∙ says (in_newest 1 s) (sym (ap (λ (l : Loosenings). l.margin_bits) newest)) (own_left (share_of words) 0 (trees_left p base.bound words cert_in x.cert.items r)) so.own
-                  ∙ ap (λ (n : ℕ). share_text p words.budget (share_of words) (in_newest 1 s) (own_left (share_of words) 0 (trees_left p base.bound words cert_in x.cert.items r)) n) so.others;
+              answer = t ∙ says s (sym (ap (λ (l : Loosenings). l.margin_bits) h.of.loosenings)) own so.own ∙ ap (λ (n : ℕ). share_text p words.budget (share_of words) s own n) so.others;
             }));
       });
     }
 
 -- ---- what is written again
 
+-- its version is no later one
+earlier : (p : Problem) (b : Option ℕ) (bytes : List ℕ) (s : Loosenings) (v : Value) → IsAccepted p b bytes s v → s.version ≤ 5
+earlier p b bytes s v h = (version_limits s.version (accepted_fits p b bytes s v h).0).1
+
 -- the certificate in the newest version is accepted with the same value
-again-accepted : (p : Problem) (b : Option ℕ) (bytes cert : List ℕ) (s : Loosenings) (v : Value) → IsAccepted p b bytes s v → cert ≡ upgraded 1 bytes → length cert ≤ most_bytes → IsAccepted p b cert (in_newest 1 s) v
+again-accepted : (p : Problem) (b : Option ℕ) (bytes cert : List ℕ) (s : Loosenings) (v : Value) → IsAccepted p b bytes s v → cert ≡ upgraded bytes → length cert ≤ most_bytes → IsAccepted p b cert (in_version 5 s) v
 again-accepted p b bytes cert s v h e fits =
     let anew = upgraded_is_accepted ((p, true) ∷ []) b bytes s (v ∷ []) (ap one_verdict h) (subst (λ (bs : List ℕ). length bs ≤ most_bytes) e fits) in
-    let one = one_value p true b (upgraded 1 bytes) (in_newest 1 s) (v ∷ []) anew in
+    let one = one_value p true b (upgraded bytes) (in_version 5 s) (v ∷ []) anew in
     let is : one.value ≡ v = cc_value (sym one.only) in
-    subst (λ (bs : List ℕ). IsAccepted p b bs (in_newest 1 s) v) (sym e) (subst (λ (w : Value). IsAccepted p b (upgraded 1 bytes) (in_newest 1 s) w) is one.accepts) where
+    subst (λ (bs : List ℕ). IsAccepted p b bs (in_version 5 s) v) (sym e) (subst (λ (w : Value). IsAccepted p b (upgraded bytes) (in_version 5 s) w) is one.accepts) where
       cc_value : {w w' : Value} → w ∷ [] ≡ w' ∷ [] → w ≡ w'
       cc_value e = cc
 
 pub point-again : (p : Problem) (b : Option ℕ) (words : Resume) (cert_in : List ℕ) (space : Space) (d : ℕ) (text : List ℕ) (told : SearchAnswer) → (loosenings : Loosenings) → IsAccepted p b cert_in loosenings (at_point space) → d ≡ loosenings.delta_bits →
-    told.cert.items ≡ upgraded 1 cert_in → length told.cert.items ≤ most_bytes → told.text.items ≡ text → AtDelta d (λ s. text ≡ delta_sat_text p s space) → TellsMore p b words cert_in told
+    told.cert.items ≡ upgraded cert_in → length told.cert.items ≤ most_bytes → told.text.items ≡ text → AtDelta d (λ s. text ≡ delta_sat_text p s space) → TellsMore p b words cert_in told
 point-again p b words cert_in space d text told s h delta c fits t says = record {
   loosenings = s;
   read = at_point space;
   accepted = h;
   more = record {
+    version = 5;
+    behind = (refl, earlier p b cert_in s (at_point space) h);
     value = at_point space;
     accepted = again-accepted p b cert_in told.cert.items s (at_point space) h c fits;
-    goes_on = (c, refl, t ∙ says (in_newest 1 s) (sym delta));
+    goes_on = (c, refl, t ∙ says s (sym delta));
   };
 }
 
 pub closed-again : (p : Problem) (b : Option ℕ) (words : Resume) (cert_in : List ℕ) (m : ℕ) (text : List ℕ) (told : SearchAnswer) → (loosenings : Loosenings) → IsAccepted p b cert_in loosenings (left_open []) → m ≡ loosenings.margin_bits →
-    told.cert.items ≡ upgraded 1 cert_in → length told.cert.items ≤ most_bytes → told.text.items ≡ text → AtMargin m (λ s. text ≡ unsat_text s) → TellsMore p b words cert_in told
+    told.cert.items ≡ upgraded cert_in → length told.cert.items ≤ most_bytes → told.text.items ≡ text → AtMargin m (λ s. text ≡ unsat_text s) → TellsMore p b words cert_in told
 closed-again p b words cert_in m text told s h margin c fits t says = record {
   loosenings = s;
   read = left_open [];
   accepted = h;
   more = record {
+    version = 5;
+    behind = (refl, earlier p b cert_in s (left_open []) h);
     value = left_open [];
     accepted = again-accepted p b cert_in told.cert.items s (left_open []) h c fits;
-    goes_on = (c, refl, t ∙ says (in_newest 1 s) (sym margin));
+    goes_on = (c, refl, t ∙ says s (sym margin));
   };
 }
 
@@ -199,6 +208,14 @@ refused-ends p b words cert fault old new status h (no_memory_yet is quiet) = no
 
 -- ---- the condition of the search
 
+-- a search begins in version 2 or 5
+abbrev IsFirst : ℕ → Type 0
+IsFirst v = (v ≡ 2) ⊎ (v ≡ 5)
+
+begins : (is_old : Bool) → IsFirst (cond is_old 2 5)
+begins true = inl refl
+begins false = inr refl
+
 pub base-limits : (p : Parts) (words : Resume) (base : Base) → IsResume words → IsWithin p → (cert : List ℕ) → IsBase (problem_of p) base.bound cert base → IsWithinLimits p (options_of base (request_of words))
 base-limits p words base asked w cert h =
     let fits = header_fits (problem_of p) base.bound cert h.read.loosenings (left_open h.read.left) h.is_read.accepted in
@@ -212,6 +229,7 @@ base-limits p words base asked w cert h =
         above_delta = rw (d, m) fits.2;
         few_margin = rw m fits.3;
         few_least = asked.least_most;
+        version_is = begins (nat_le base.version 2);
       };
       budget = asked.budget_most;
       axes = w.axes;

@@ -9,7 +9,7 @@ use Rattle.poly_graph.specs.Problem.{Problem, first_crossed}
 use Rattle.poly_graph.specs.ProblemViews.{Parts, problem_of}
 use Rattle.interval_model.specs.Space.{Space}
 use Rattle.cover_model.specs.Space.{IsGridSpace}
-use Rattle.cover_model.specs.State.{State, Loosenings}
+use Rattle.cover_model.specs.State.{State, Loosenings, in_version}
 use Rattle.poly_graph.specs.Marks.{Mark}
 use Rattle.cover_model.specs.Fits.{IsShownAt}
 use Rattle.cover_model.specs.Honest.{is_honest}
@@ -18,7 +18,7 @@ use Rattle.cert_model.specs.Accepted.{IsAccepted}
 use Rattle.cert_model.specs.AnswerText.{has_open, budget_text, unsat_text, delta_sat_text, width_text, solve_text}
 use Rattle.cert_model.specs.Standing.{Stands, standing, IsHonest, branches, branches_of}
 use Rattle.cover_data.specs.declared.margins.Options as cover
-use Rattle.cover_data.specs.Margins.{AreMargins, loosenings_of as of_margins}
+use Rattle.cover_data.specs.Margins.{AreMargins, options_in, loosenings_of as of_margins}
 use Rattle.cover_book.specs.declared.verdict.BookVerdict.{BookVerdict}
 use Rattle.cover_book.specs.declared.verdict.BookVerdict.TheVariants.{DeltaSat, UnknownBudget, NotYet, UnknownWidth, Unsat}
 use Rattle.cover_book.specs.Limits.{IsWithinLimits}
@@ -45,6 +45,7 @@ limits p o h w = record {
     above_delta = h.below_margin;
     few_margin = h.margin_most;
     few_least = h.least_most;
+    version_is = inr refl;
   };
   budget = h.budget_most;
   axes = w.axes;
@@ -158,8 +159,9 @@ width_as b q e x S j f text h =
 -- ---- certificates
 
 -- with the words' options in place of the book's
-accepted-as : (b : BookModel) (o : Options) (cert : List ℕ) (value : Value) → b.options ≡ search_options o → IsAccepted (problem_in b) b.options.bound cert (loosenings_in b) value → IsAccepted (problem_in b) o.bound cert (loosenings_of o) value
-accepted-as b o cert value e h = subst (λ (x : cover.Options). IsAccepted (problem_in b) x.bound cert (of_margins (margins_of x)) value) e h
+accepted-as : (b : BookModel) (o : Options) (v : ℕ) (cert : List ℕ) (value : Value) → b.options ≡ options_in v (search_options o) → IsAccepted (problem_in b) b.options.bound cert (loosenings_in b) value →
+    IsAccepted (problem_in b) o.bound cert (in_version v (loosenings_of o)) value
+accepted-as b o v cert value e h = subst (λ (x : cover.Options). IsAccepted (problem_in b) x.bound cert (of_margins (margins_of x)) value) e h
 
 -- what an answer of a cover is, with what it leaves
 pub record IsCover (o : Options) (b : BookModel) (cert : List ℕ) : Type 0 where
@@ -176,7 +178,9 @@ module _ (b : BookModel) (w : IsBook b) (o : Options) (by : IsLeftBy o b) (n : b
   crossed-cover h c = record {
     left = [];
     answer = record {
-      accepted = accepted-as b o cert (left_open []) by.asked c.accepted;
+      version = b.options.version;
+      is_version = by.version;
+      accepted = accepted-as b o b.options.version cert (left_open []) by.asked c.accepted;
       found = record {
         honest = all-of-none (problem_in b) o.least_bits (standing (problem_in b) o.bound cert) stands;
         within = omega (arith, none);
@@ -196,7 +200,9 @@ module _ (b : BookModel) (w : IsBook b) (o : Options) (by : IsLeftBy o b) (n : b
   tree-cover h c = record {
     left = c.left;
     answer = record {
-      accepted = accepted-as b o cert (left_open c.left) by.asked c.accepted;
+      version = b.options.version;
+      is_version = by.version;
+      accepted = accepted-as b o b.options.version cert (left_open c.left) by.asked c.accepted;
       found = record {
         honest = subst (λ (x : cover.Options). IsHonest (problem_in b) x.bound x.least_bits cert) by.asked (c.honest (λ k S e. (by.due n k S e).not_shown));
         within = omega (arith, many, w.budget, budget);
@@ -245,7 +251,7 @@ module _ (b : BookModel) (w : IsBook b) (o : Options) (by : IsLeftBy o b) (x : S
       let shown = subst (λ (p : Option Space). IfSome p (λ (y : Space). IsShownAt (problem_in b) (loosenings_in b) y × IsGridSpace y)) kept w.point in
       let here = subst (λ (r : Parts). AreMargins (margins_of a) → IsShownAt (problem_of r) (of_margins (margins_of a)) x → IsAccepted (problem_of r) a.bound cert (of_margins (margins_of a)) (at_point x)) is-problem h in
       let there = subst (λ (y : cover.Options). AreMargins (margins_of y) → IsShownAt (problem_in b) (of_margins (margins_of y)) x → IsAccepted (problem_in b) y.bound cert (of_margins (margins_of y)) (at_point x)) is-asked here in
-      record { accepted = accepted-as b o cert (at_point x) by.asked (there w.limits.margins shown.0); found = tt }
+      record { version = b.options.version; is_version = by.version; accepted = accepted-as b o b.options.version cert (at_point x) by.asked (there w.limits.margins shown.0); found = tt }
 
   pub says_point : (y : Space) → y ≡ x → (text : List ℕ) → ((s : Loosenings) → s.delta_bits ≡ o.delta_bits → text ≡ delta_sat_text (problem_of q) s y) → text ≡ solve_text (problem_in b) o.budget (loosenings_of o) (at_point x)
   says_point y is text h = h (loosenings_of o) refl ∙ ap (λ (r : Parts). delta_sat_text (problem_of r) (loosenings_of o) y) is-problem ∙ ap (λ (z : Space). delta_sat_text (problem_in b) (loosenings_of o) z) is

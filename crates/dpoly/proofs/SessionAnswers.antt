@@ -1,8 +1,8 @@
 -- From the books that searches left at the checks of a script to the answers.
-use Rattle.std.proofs.Common.{◌≡◌, ◌+◌, inl, inr, ℕ, zero, suc, List, [], ◌∷◌, ◌++◌, Bool, true, false, true≢false, Option, None, Some, IsTrue, cond, length, map, refl, ap, ap₂, sym, ◌∙◌, subst, arith, append_assoc, append-nil}
+use Rattle.std.proofs.Common.{◌≡◌, ◌≢◌, ◌⊎◌, ◌+◌, inl, inr, ℕ, zero, suc, List, [], ◌∷◌, ◌++◌, Bool, true, false, true≢false, Option, None, Some, IsTrue, cond, length, map, refl, ap, ap₂, sym, ◌∙◌, subst, arith, append_assoc, append-nil}
 use Rattle.std.specs.Prelude.{slice_get, IfOk, Result, Ok, Err}
 use Rattle.std.specs.List.{All}
-use Rattle.std.proofs.lemmas.Bool.{lt-ltb}
+use Rattle.std.proofs.lemmas.Bool.{ne_eqb}
 use Rattle.std.proofs.lemmas.List.Elements.{All-nil, All-cons}
 use Rattle.std.proofs.lemmas.Option.{none-some}
 use Rattle.command_line.specs.declared.request.Options.{Options}
@@ -11,23 +11,26 @@ use Rattle.poly_graph.specs.Problem.{Problem}
 use Rattle.poly_graph.specs.ProblemViews.{Parts, problem_of}
 use Rattle.problem_session.specs.Session.{problems_of}
 use Rattle.interval_model.specs.Space.{Space}
-use Rattle.cover_model.specs.State.{State, Loosenings}
+use Rattle.cover_model.specs.State.{State}
 use Rattle.cover_model.specs.Honest.{is_honest}
 use Rattle.cert_model.specs.Due.{Standing, Value, at_point, left_open}
 use Rattle.cert_model.specs.AnswerText.{has_open, solve_text}
-use Rattle.cert_model.specs.Session.{AreAccepted, one_verdict, part_branches, session_standing}
+use Rattle.cert_model.specs.Least.{is_lines_version}
+use Rattle.cert_model.specs.Session.{is_session_version, one_verdict, part_branches, session_standing}
 use Rattle.cert_model.specs.SessionLaws.{IsSession}
 use Rattle.cert_model.specs.Standing.{Stands, branches_of}
-use Rattle.cert_upgrade.specs.Upgraded.{newest}
 use Rattle.cover_data.specs.declared.margins.Options as cover
+use Rattle.cover_data.specs.Margins.{options_in}
 use Rattle.cover_book.specs.Model.{BookModel, problem_in}
-use Rattle.cover_book.specs.Verdict.{has_live}
+use Rattle.cover_book.specs.Verdict.{has_live, verdict_of}
+use Rattle.cover_book.specs.Left.{LeavesDue}
+use Rattle.cover_book.specs.declared.verdict.BookVerdict.TheVariants.{NotYet}
 use Rattle.cover_book.specs.Keeps.{IsBook}
 use Rattle.cover_book.specs.Session.{AreBooksOf, next_kept}
-use Rattle.cert_text.specs.Session.{IsSessionText, TellsOf, session_loosenings}
+use Rattle.cert_text.specs.Session.{IsSessionText, TellsOf, session_version}
 use Rattle.cert_text.proofs.Leftovers.{left_tells_of_nodes}
-use Rattle.solve_core.specs.Solved.{IsCheckWithin, IsSolved}
-use Rattle.check_run.specs.Answer.{loosenings_for, loosenings_of, solve_texts, AreFoundFrom, IsFound, IsFoundPart}
+use Rattle.solve_core.specs.Solved.{IsCheckWithin, IsInVersionOf, IsSolved}
+use Rattle.check_run.specs.Answer.{is_answer_version, loosenings_of, solve_texts, AreFoundFrom, IsFound, IsFoundPart}
 use Rattle.check_run.specs.Script.{AreWithin, IsWithin}
 use Rattle.dpoly.specs.declared.answers.SearchAnswer.{SearchAnswer}
 use Rattle.dpoly.specs.Search.{search_options, book_texts, AreLeftBy, AreSearchAnswers, AreTold, IsLeftBy, IsSearchAnswer, SaysLeft, SaysOf, SayOf}
@@ -39,19 +42,47 @@ pub session_limits : (o : Options) → AreOptions o → (session : List (Parts �
 session_limits o h [] w = All-nil (IsCheckWithin (search_options o))
 session_limits o h (c ∷ session) w = All-cons (IsCheckWithin (search_options o)) c session (limits c.0 o h w.0) (session_limits o h session w.1)
 
-pub left_by : (o : Options) (kept : List State) (session : List (Parts × Bool)) (books : List BookModel) → AreBooksOf (search_options o) kept session books → All IsSolved books → AreLeftBy o books
-left_by o kept session [] h s = tt
-left_by o kept ((q, e) ∷ later) (b ∷ books) h s =
+pub left_by : (o : Options) (v : ℕ) → IsTrue (is_lines_version v) → (kept : List State) (session : List (Parts × Bool)) (books : List BookModel) → AreBooksOf (options_in v (search_options o)) kept session books → All IsSolved books → AreLeftBy o books
+left_by o v is kept session [] h s = tt
+left_by o v is kept ((q, e) ∷ later) (b ∷ books) h s =
     let here : IsSolved b = s 0 b (omega arith) in
-    (record { asked = h.2; ended = here.verdict; due = here.left }, left_by o (next_kept b later) later books h.5 (λ k d l. s (suc k) d (omega (arith, l))))
-left_by o kept [] (b ∷ books) h s = absurd h
+    let same : v ≡ b.options.version = sym (ap (λ (x : cover.Options). x.version) h.2) in
+    let left : IsLeftBy o b = record {
+      version = subst (λ (n : ℕ). IsTrue (is_lines_version n)) same is;
+      asked = subst (λ (n : ℕ). b.options ≡ options_in n (search_options o)) same h.2;
+      ended = here.verdict;
+      due = here.left;
+    } in
+    (left, left_by o v is (next_kept b later) later books h.5 (λ k d l. s (suc k) d (omega (arith, l))))
+left_by o v is kept [] (b ∷ books) h s = absurd h
+
+-- a version of the lines of one check, and that of a certificate of several which has them
+pub lines_version : (v : ℕ) → (v ≡ 2) ⊎ (v ≡ 5) → IsTrue (is_lines_version v)
+lines_version v (inl e) = ap is_lines_version e
+lines_version v (inr e) = ap is_lines_version e
+
+session-version : (v : ℕ) → (v ≡ 2) ⊎ (v ≡ 5) → IsTrue (is_session_version (session_version v))
+session-version v (inl e) = ap (λ (n : ℕ). is_session_version (session_version n)) e
+session-version v (inr e) = ap (λ (n : ℕ). is_session_version (session_version n)) e
+
+several_version : (n v : ℕ) → (v ≡ 2) ⊎ (v ≡ 5) → IsTrue (is_answer_version (suc (suc n)) (session_version v))
+several_version n v h =
+    let w : ℕ = session_version v in
+    ap (λ (b : Bool). cond b (is_lines_version w) (is_session_version w)) (ne_eqb (suc (suc n)) 1 (λ e. absurd (omega (arith, e)))) ∙ session-version v h
 
 -- what holds of an answer for two reasons
 pub both_ok : {X E : Type 0} {P Q R : X → Type 0} (r : Result X E) → IfOk r P → IfOk r Q → ((x : X) → P x → Q x → R x) → IfOk r R
 both_ok (Ok x) p q f = f x p q
 both_ok (Err e) p q f = tt
 
+pub three_ok : {X E : Type 0} {P Q R S : X → Type 0} (r : Result X E) → IfOk r P → IfOk r Q → IfOk r R → ((x : X) → P x → Q x → R x → S x) → IfOk r S
+three_ok (Ok x) p q s f = f x p q s
+three_ok (Err e) p q s f = tt
+
 -- ---- one check
+
+pub left_of_search : (o : Options) (b : BookModel) → IsInVersionOf (search_options o) 2 b → verdict_of b ≢ NotYet → LeavesDue b → IsLeftBy o b
+left_of_search o b is verdict left = record { version = lines_version b.options.version is.version; asked = is.options; ended = verdict; due = left }
 
 pub record OneOf (session : List (Parts × Bool)) (p : Parts) : Type 0 where
   pub extends : Bool
@@ -72,7 +103,7 @@ found-alone p x o cert (left_open left) h = record { honest = h.honest; within =
 single-answers : (p : Problem) (x : Bool) (o : Options) (told : SearchAnswer) → IsSearchAnswer p o told → AreSearchAnswers ((p, x) ∷ []) o told
 single-answers p x o told is = record {
   values = is.value ∷ [];
-  answers = record { accepted = ap one_verdict is.answer.accepted; found = (found-alone p x o told.cert.items is.value is.answer.found, tt) };
+  answers = record { version = is.answer.version; is_version = is.answer.is_version; accepted = ap one_verdict is.answer.accepted; found = (found-alone p x o told.cert.items is.value is.answer.found, tt) };
   text = is.text ∙ sym (append-nil (solve_text p o.budget (loosenings_of o) is.value));
 }
 
@@ -204,8 +235,8 @@ told-all (b ∷ books) (v ∷ values) ps bound cert k e f = (
       (λ j c x at is. let next : k + suc j ≡ suc k + j = omega arith in subst (λ (i : ℕ). TellsOf c x (session_standing ps bound cert i)) next (f (suc j) c x at is)),
 )
 
-module _ (o : Options) (ps : List (Problem × Bool)) (cert : List ℕ) where
-  found-all : (k : ℕ) (kept : List State) (session : List (Parts × Bool)) (books : List BookModel) (values : List Value) → AreBooksOf (search_options o) kept session books → AreLeftBy o books → length values ≡ length books →
+module _ (o : Options) (u : cover.Options) (ps : List (Problem × Bool)) (cert : List ℕ) where
+  found-all : (k : ℕ) (kept : List State) (session : List (Parts × Bool)) (books : List BookModel) (values : List Value) → AreBooksOf u kept session books → AreLeftBy o books → length values ≡ length books →
       ((j : ℕ) (b : BookModel) (v : Value) → slice_get books j ≡ Some b → slice_get values j ≡ Some v → TellsOf b v (session_standing ps o.bound cert (k + j))) → AreFoundFrom ps o cert k (problems_of session) values
   found-all k kept [] [] [] h left e f = tt
   found-all k kept [] [] (v ∷ values) h left e f = absurd (omega (arith, e))
@@ -220,41 +251,33 @@ module _ (o : Options) (ps : List (Problem × Bool)) (cert : List ℕ) where
   found-all k kept [] (b ∷ books) values h left e f = absurd h
   found-all k kept (c ∷ later) [] values h left e f = absurd h
 
--- the version is no matter to the texts
-same-text : (n : ℕ) (o : Options) (p : Problem) (v : Value) → solve_text p o.budget (loosenings_of o) v ≡ solve_text p o.budget (loosenings_for n o) v
-same-text n o p (at_point space) = refl
-same-text n o p (left_open []) = refl
-same-text n o p (left_open (x ∷ left)) = refl
+-- the texts, by the problems
+same-texts : (o : Options) (u : cover.Options) (kept : List State) (session : List (Parts × Bool)) (books : List BookModel) (values : List Value) → AreBooksOf u kept session books →
+    book_texts o books values ≡ solve_texts o.budget (loosenings_of o) (problems_of session) values
+same-texts o u kept [] [] [] h = refl
+same-texts o u kept [] [] (v ∷ values) h = refl
+same-texts o u kept ((q, x) ∷ later) (b ∷ books) [] h = refl
+same-texts o u kept ((q, x) ∷ later) (b ∷ books) (v ∷ values) h =
+    ap₂ (λ (s t : List ℕ). s ++ t) (ap (λ (r : Parts). solve_text (problem_of r) o.budget (loosenings_of o) v) h.1) (same-texts o u (next_kept b later) later books values h.5)
+same-texts o u kept [] (b ∷ books) values h = absurd h
+same-texts o u kept (c ∷ later) [] values h = absurd h
 
-same-texts : (n : ℕ) (o : Options) (kept : List State) (session : List (Parts × Bool)) (books : List BookModel) (values : List Value) → AreBooksOf (search_options o) kept session books →
-    book_texts o books values ≡ solve_texts o.budget (loosenings_for n o) (problems_of session) values
-same-texts n o kept [] [] [] h = refl
-same-texts n o kept [] [] (v ∷ values) h = refl
-same-texts n o kept ((q, x) ∷ later) (b ∷ books) [] h = refl
-same-texts n o kept ((q, x) ∷ later) (b ∷ books) (v ∷ values) h =
-    ap₂ (λ (s t : List ℕ). s ++ t) (ap (λ (r : Parts). solve_text (problem_of r) o.budget (loosenings_of o) v) h.1 ∙ same-text n o (problem_of q) v) (same-texts n o (next_kept b later) later books values h.5)
-same-texts n o kept [] (b ∷ books) values h = absurd h
-same-texts n o kept (c ∷ later) [] values h = absurd h
-
-newest-several : (n : ℕ) → newest (suc (suc n)) ≡ 3
-newest-several n = ap (λ (b : Bool). cond b 3 2) (lt-ltb 1 (suc (suc n)) (omega arith))
-
-session-loosenings : (n : ℕ) (o : Options) → session_loosenings (search_options o) ≡ loosenings_for (suc (suc n)) o
-session-loosenings n o = ap (λ (v : ℕ). record { margin_bits = o.margin_bits; delta_bits = o.delta_bits; version = v }) (sym (newest-several n))
-
-pub session_answers : (o : Options) (c d : Parts × Bool) (later : List (Parts × Bool)) (books : List BookModel) (told : SearchAnswer) → AreBooksOf (search_options o) [] (c ∷ d ∷ later) books → AreLeftBy o books →
-    IsSessionText (search_options o) (c ∷ d ∷ later) books told.cert.items → SayOf o books told.text.items → AreSearchAnswers (problems_of (c ∷ d ∷ later)) o told
-session_answers o c d later books told are left is say =
+pub session_answers : (o : Options) (v : ℕ) → (v ≡ 2) ⊎ (v ≡ 5) → (c d : Parts × Bool) (later : List (Parts × Bool)) (books : List BookModel) (told : SearchAnswer) → AreBooksOf (options_in v (search_options o)) [] (c ∷ d ∷ later) books → AreLeftBy o books →
+    IsSessionText (options_in v (search_options o)) (c ∷ d ∷ later) books told.cert.items → SayOf o books told.text.items → AreSearchAnswers (problems_of (c ∷ d ∷ later)) o told
+session_answers o v lines c d later books told are left is say =
+    let u : cover.Options = options_in v (search_options o) in
     let session : List (Parts × Bool) = c ∷ d ∷ later in
     let ps : List (Problem × Bool) = problems_of session in
     let cert : List ℕ = told.cert.items in
-    let tells : (j : ℕ) (b : BookModel) (v : Value) → slice_get books j ≡ Some b → slice_get is.values j ≡ Some v → TellsOf b v (session_standing ps o.bound cert (0 + j)) =
-    λ j b v at value. let same : j ≡ 0 + j = omega arith in subst (λ (i : ℕ). TellsOf b v (session_standing ps o.bound cert i)) same (is.each j b v at value) in
+    let tells : (j : ℕ) (b : BookModel) (x : Value) → slice_get books j ≡ Some b → slice_get is.values j ≡ Some x → TellsOf b x (session_standing ps o.bound cert (0 + j)) =
+    λ j b x at value. let same : j ≡ 0 + j = omega arith in subst (λ (i : ℕ). TellsOf b x (session_standing ps o.bound cert i)) same (is.each j b x at value) in
     record {
       values = is.values;
       answers = record {
-        accepted = subst (λ (s : Loosenings). AreAccepted ps o.bound cert s is.values) (session-loosenings (length (problems_of later)) o) is.accepted;
-        found = found-all o ps cert 0 [] session books is.values are left is.count tells;
+        version = session_version v;
+        is_version = several_version (length (problems_of later)) v lines;
+        accepted = is.accepted;
+        found = found-all o u ps cert 0 [] session books is.values are left is.count tells;
       };
-      text = say is.values (told-all books is.values ps o.bound cert 0 is.count tells) ∙ same-texts (length ps) o [] session books is.values are;
+      text = say is.values (told-all books is.values ps o.bound cert 0 is.count tells) ∙ same-texts o u [] session books is.values are;
     }

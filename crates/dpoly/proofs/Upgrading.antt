@@ -1,5 +1,5 @@
 -- From a certificate on its port to the same in the newest version.
-use Rattle.std.proofs.Common.{◌≡◌, ◌<◌, ◌≤◌, ◌++◌, ℕ, List, [], ◌∷◌, Bool, Option, Ok, IfSome, length, take, refl, ap, sym, ◌∙◌, subst}
+use Rattle.std.proofs.Common.{◌≡◌, ◌<◌, ◌≤◌, ◌++◌, ℕ, List, [], ◌∷◌, Bool, Option, None, Ok, IfSome, length, take, refl, ap, sym, ◌∙◌, subst}
 use Rattle.std.specs.Prelude.{Vec}
 use Rattle.std.specs.declared.alloc.Global.{Global}
 use Rattle.desk.specs.declared.desk.Port.TheVariants.{CertIn}
@@ -64,16 +64,16 @@ module _ (session : List (Parts × Bool)) (bound : Option ℕ) (f : Feed) (kept 
 
 -- ---- the certificate that is written
 
-pub upgrade_of : (checks : ℕ) (name kept text bytes : List ℕ) (old new : Sight) (result : Status) → text ≡ upgraded checks kept → length text ≤ most_bytes → bytes ≡ text → Ends (gives name bytes upgraded_text) old new result →
-    RunEnds (IsUpgradeOf checks name kept) [] old new result
-upgrade_of checks name kept text bytes old new result e fits same ends =
-    on_course (gives name (upgraded checks kept) upgraded_text) (record { fits = subst (λ (t : List ℕ). length t ≤ most_bytes) e fits; same = refl })
+pub upgrade_of : (name kept text bytes : List ℕ) (old new : Sight) (result : Status) → text ≡ upgraded kept → length text ≤ most_bytes → bytes ≡ text → Ends (gives name bytes upgraded_text) old new result →
+    RunEnds (IsUpgradeOf name kept) [] old new result
+upgrade_of name kept text bytes old new result e fits same ends =
+    on_course (gives name (upgraded kept) upgraded_text) (record { fits = subst (λ (t : List ℕ). length t ≤ most_bytes) e fits; same = refl })
     (subst (λ (t : List ℕ). Ends (gives name t upgraded_text) old new result) (same ∙ e) ends)
 
 -- ---- the ends of a run behind its problems
 
 module _ (ps : List (Problem × Bool)) (bound : Option ℕ) (name out : List ℕ) where
-  upgrades-by : (cert : List ℕ) (v : SessionVerdict) → session_verdict ps bound cert ≡ v → IsConfirmed v → (tail : Course) → IsUpgradeOf (length ps) out cert tail → CanUpgradeBy v ps bound out cert tail
+  upgrades-by : (cert : List ℕ) (v : SessionVerdict) → session_verdict ps bound cert ≡ v → IsConfirmed v → (tail : Course) → IsUpgradeOf out cert tail → CanUpgradeBy v ps bound out cert tail
   upgrades-by cert (accepted s values) e is tail one = (upgraded_is_accepted ps bound cert s values e one.fits, one.same)
   upgrades-by cert (refused f n) e is tail one = absurd is
 
@@ -82,22 +82,22 @@ module _ (ps : List (Problem × Bool)) (bound : Option ℕ) (name out : List ℕ
   refuses-by cert (refused f n) is tail e = e
 
   pub upgraded_ends : (kept : List ℕ) (old first mid new : Sight) (status : Status) → first ≡ with_start CertIn name old → ReadsSome CertIn first mid
-      → IfSome first.cert_in (IsKept ps bound kept) → RunEnds (IsUpgradeOf (length ps) out kept) [] mid new status
-      → IfSome old.cert_in (λ cert. RunEnds (CanUpgrade ps bound name out cert) ((CertIn, name) ∷ []) old new status)
+      → IfSome first.cert_in (IsKept ps bound kept) → RunEnds (IsUpgradeOf out kept) [] mid new status
+      → IfSome old.cert_in (λ cert. RunEnds (CanUpgrade None ps bound name out cert) ((CertIn, name) ∷ []) old new status)
   upgraded_ends kept old first mid new status started some is ends =
-      over (IsKept ps bound kept) (λ (cert : List ℕ). RunEnds (CanUpgrade ps bound name out cert) ((CertIn, name) ∷ []) old new status) old.cert_in
+      over (IsKept ps bound kept) (λ (cert : List ℕ). RunEnds (CanUpgrade None ps bound name out cert) ((CertIn, name) ∷ []) old new status) old.cert_in
       (subst (λ (o : Option (List ℕ)). IfSome o (IsKept ps bound kept)) (ap (λ (d : Sight). d.cert_in) started) is)
       (λ cert h.
-      run_behind (IsUpgradeOf (length ps) out cert) (CanUpgrade ps bound name out cert) (CertIn, name) [] old mid new status (after_cert_in name old first mid started some)
+      run_behind (IsUpgradeOf out cert) (CanUpgrade None ps bound name out cert) (CertIn, name) [] old mid new status (after_cert_in name old first mid started some)
       (λ tail can. (tail, upgrades-by cert (session_verdict ps bound cert) refl h.confirmed tail can, refl))
-      (subst (λ (bs : List ℕ). RunEnds (IsUpgradeOf (length ps) out bs) [] mid new status) h.same ends))
+      (subst (λ (bs : List ℕ). RunEnds (IsUpgradeOf out bs) [] mid new status) h.same ends))
 
   pub refused_ends : (fault : CertFault) (old first mid new : Sight) (status : Status) → first ≡ with_start CertIn name old → ReadsSome CertIn first mid
       → IfSome first.cert_in (λ cert. IsRefusalOrMemory (session_verdict ps bound cert) fault) → RunEnds (IsRefusalOf fault) [] mid new status
-      → IfSome old.cert_in (λ cert. RunEnds (CanUpgrade ps bound name out cert) ((CertIn, name) ∷ []) old new status)
+      → IfSome old.cert_in (λ cert. RunEnds (CanUpgrade None ps bound name out cert) ((CertIn, name) ∷ []) old new status)
   refused_ends fault old first mid new status started some tells ends =
-      over (λ (cert : List ℕ). IsRefusalOrMemory (session_verdict ps bound cert) fault) (λ (cert : List ℕ). RunEnds (CanUpgrade ps bound name out cert) ((CertIn, name) ∷ []) old new status) old.cert_in
+      over (λ (cert : List ℕ). IsRefusalOrMemory (session_verdict ps bound cert) fault) (λ (cert : List ℕ). RunEnds (CanUpgrade None ps bound name out cert) ((CertIn, name) ∷ []) old new status) old.cert_in
       (subst (λ (o : Option (List ℕ)). IfSome o (λ cert. IsRefusalOrMemory (session_verdict ps bound cert) fault)) (ap (λ (d : Sight). d.cert_in) started) tells)
       (λ cert h.
-      run_behind (IsRefusalOf fault) (CanUpgrade ps bound name out cert) (CertIn, name) [] old mid new status (after_cert_in name old first mid started some)
+      run_behind (IsRefusalOf fault) (CanUpgrade None ps bound name out cert) (CertIn, name) [] old mid new status (after_cert_in name old first mid started some)
       (λ tail can. (tail, refuses-by cert (session_verdict ps bound cert) (can (session_verdict ps bound cert) h).0 tail (can (session_verdict ps bound cert) h).1, refl)) ends)

@@ -11,7 +11,7 @@ use Rattle.cert_model.specs.Least.{Least, least, IsGoalAccepted}
 use Rattle.goal_limit.specs.Limits.{has_room}
 use Rattle.cert_model.specs.AnswerText.{solve_text}
 use Rattle.cover_data.specs.declared.margins.Options as cover
-use Rattle.cover_data.specs.Margins.{margins_of, loosenings_of as of_margins}
+use Rattle.cover_data.specs.Margins.{margins_of, options_in, loosenings_of as of_margins}
 use Rattle.least_search.specs.Found.{bound_of}
 use Rattle.least_search.specs.declared.found.Ending.{Ending}
 use Rattle.least_search.specs.declared.found.Ending.TheVariants.{Minimum, Budget, Width, Limit}
@@ -24,6 +24,13 @@ use Rattle.check_run.specs.declared.minimized.Cause.TheVariants.{Near, Spent, Na
 use Rattle.check_run.specs.Answer.{loosenings_of, IsAnswer}
 use Rattle.check_run.specs.Minimized.{Cause, IsLeastAnswer, minimize_text}
 use Rattle.dpoly.specs.declared.answers.SearchAnswer.{SearchAnswer}
+use Rattle.dpoly.specs.Search.{search_options}
+
+-- ---- the searches
+
+-- the words' options, as the first search takes them
+abbrev pub first_options : Options → cover.Options
+first_options options = options_in 2 (search_options options)
 
 -- ---- the value of the certificate
 
@@ -35,9 +42,10 @@ overs_of p (shown.Limit b k d) = []
 abbrev pub value_of : Problem → Found → Least
 value_of p f = record { lower = option_map dyadic_of (bound_of f.lower); over = overs_of p f.lower; point = Some f.point }
 
--- for these options the certificate is accepted, with the value of what was found
+-- for these options, in the version of what was found, the certificate is accepted with the value of that
 abbrev pub IsAcceptedFor : Parts → ℕ → cover.Options → Found → List ℕ → Type 0
-IsAcceptedFor q g o f cert = IsGoalAccepted (problem_of q) g (has_room (problem_of q)) o.bound cert (of_margins (margins_of o)) (least (value_of (problem_of q) f))
+IsAcceptedFor q g o f cert =
+    IsGoalAccepted (problem_of q) g (has_room (problem_of q)) o.bound cert (of_margins (margins_of (options_in f.version o))) (least (value_of (problem_of q) f))
 
 -- ---- answers
 

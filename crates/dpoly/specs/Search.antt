@@ -1,12 +1,14 @@
 -- What a search is asked for, and what is answered of the book that it left.
-use Rattle.std.specs.Prelude.{◌≡◌, ◌≢◌, ◌++◌, ℕ, List, [], ◌∷◌, Bool, length}
+use Rattle.std.specs.Prelude.{◌≡◌, ◌≢◌, ◌++◌, ℕ, List, [], ◌∷◌, Bool, IsTrue}
 use Rattle.std.specs.List.{AllByRecursion}
 use Rattle.command_line.specs.declared.request.Options.{Options}
 use Rattle.poly_graph.specs.Problem.{Problem}
 use Rattle.cover_model.specs.Derivation.{Tree}
 use Rattle.cert_model.specs.Due.{Standing, Value, left_open}
 use Rattle.cert_model.specs.AnswerText.{solve_text}
+use Rattle.cert_model.specs.Least.{is_lines_version}
 use Rattle.cover_data.specs.declared.margins.Options as cover
+use Rattle.cover_data.specs.Margins.{options_in}
 use Rattle.cover_book.specs.declared.verdict.BookVerdict.TheVariants.{NotYet}
 use Rattle.cover_book.specs.Model.{BookModel, problem_in}
 use Rattle.cover_book.specs.Keeps.{IsCrossed}
@@ -16,22 +18,24 @@ use Rattle.cover_book.specs.Left.{LeavesDue}
 use Rattle.dpoly.specs.declared.answers.SearchAnswer.{SearchAnswer}
 use Rattle.cert_model.specs.Standing.{Stands}
 use Rattle.cert_text.specs.Session.{TellsOf}
-use Rattle.check_run.specs.Answer.{loosenings_for, loosenings_of, solve_texts, AreAnswers, IsAnswer}
+use Rattle.check_run.specs.Answer.{loosenings_of, solve_texts, AreAnswers, IsAnswer}
 
--- the words' options, as a search takes them
+-- the words' options, as a search takes them that may go over to version 5
 abbrev pub search_options : Options → cover.Options
 search_options options = record {
   delta_bits = options.delta_bits;
   margin_bits = options.margin_bits;
   least_bits = options.least_bits;
+  version = 5;
   budget = options.budget;
   workers = options.workers;
   bound = options.bound;
 }
 
--- a search with these options left the book
+-- a search with these options left the book, in version 2 or 5
 pub record IsLeftBy (options : Options) (b : BookModel) : Type 0 where
-  pub asked : b.options ≡ search_options options
+  pub version : IsTrue (is_lines_version b.options.version)
+  pub asked : b.options ≡ options_in b.options.version (search_options options)
   pub ended : verdict_of b ≢ NotYet
   pub due : LeavesDue b
 
@@ -73,4 +77,4 @@ pub record IsSearchAnswer (p : Problem) (options : Options) (told : SearchAnswer
 pub record AreSearchAnswers (ps : List (Problem × Bool)) (options : Options) (told : SearchAnswer) : Type 0 where
   pub values : List Value
   pub answers : AreAnswers ps options told.cert.items values
-  pub text : told.text.items ≡ solve_texts options.budget (loosenings_for (length ps) options) ps values
+  pub text : told.text.items ≡ solve_texts options.budget (loosenings_of options) ps values

@@ -3,9 +3,9 @@ ghost use Rattle.std.specs.Prelude.{◌≡◌, [], ◌∷◌, Bool, List, None, 
 ghost use Rattle.command_line.specs.declared.request.Options.{Options};
 ghost use Rattle.cover_book.specs.Keeps.{IsBook};
 ghost use Rattle.cover_book.specs.Model.{IsOfRoot, problem_in};
-ghost use Rattle.cover_book.specs.Session.{AreBooksOf};
 ghost use Rattle.poly_graph.specs.ProblemViews.{Parts};
 ghost use Rattle.problem_session.specs.Session.{problems_of};
+ghost use Rattle.solve_core.specs.Solved.{AreBooksInOneVersion};
 ghost use Rattle.cover_book.specs.Verdict.{verdict_of};
 ghost use Rattle.cover_book.specs.declared.verdict.BookVerdict.TheVariants as verdict;
 ghost use Rattle.dpoly.specs.Minimize.{IsLeftAnswer};
@@ -24,6 +24,9 @@ pub struct SearchAnswer {
     pub text: Vec<u8>,
 }
 
+// The latest version of the format that a search may write.
+const LATEST: u32 = 5;
+
 /// What the words ask of a search.
 pub fn search_options(options: &Options) -> cover_rule::Options
     ensures { result ≡ options_of options.now }
@@ -32,6 +35,7 @@ pub fn search_options(options: &Options) -> cover_rule::Options
         delta_bits: options.delta_bits,
         margin_bits: options.margin_bits,
         least_bits: options.least_bits,
+        version: LATEST,
         budget: options.budget,
         workers: options.workers,
         bound: options.bound,
@@ -152,7 +156,7 @@ pub fn tell_all(
 ) -> Result<SearchAnswer, AllocError>
     requires { AreLeftBy options.now books.now }
     ensures { (c d : Parts × Bool) (later : List (Parts × Bool)) →
-        AreBooksOf (options_of options.now) [] (c ∷ d ∷ later) books.now →
+        AreBooksInOneVersion (options_of options.now) (c ∷ d ∷ later) books.now →
         IfOk result (λ told. AreSearchAnswers (problems_of (c ∷ d ∷ later)) options.now told) }
 {
     let cert = write_session(alloc, books)?;

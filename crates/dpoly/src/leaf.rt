@@ -3,7 +3,7 @@ ghost use Rattle.std.specs.Prelude.{◌<◌, ◌^◌, IfOk};
 ghost use Rattle.cover_line.specs.Views.{line_of};
 ghost use Rattle.cert_resumed.specs.Resumed.{is_own};
 ghost use Rattle.cert_resume.specs.Calls.{Passes, Searches};
-ghost use Rattle.cert_resume.specs.Going.{IsSearchable, IsWithinRoot, MayGoOn};
+ghost use Rattle.cert_resume.specs.Going.{IsSearchable, IsWithinRoot, MayGoOn, options_now};
 ghost use Rattle.cert_resume.specs.Request.{IsShare, share_of};
 ghost use Rattle.cert_resume.specs.Searched.{IsSearchedOn};
 
@@ -25,7 +25,7 @@ pub struct Engine<'a, R, G> {
     pub gate: &'a G,
 }
 
-// The book, searched on by its own options until it has an answer.
+// The book, searched on by its own options until it has an answer, perhaps over to version 5.
 fn searched<R: Threads + Wait + Sync, G: Gate + Sync>(
     engine: &Engine<'_, R, G>,
     alloc: Global,
@@ -43,13 +43,15 @@ fn search_leaf<R: Threads + Wait + Sync, G: Gate + Sync>(
     engine: &Engine<'_, R, G>,
     state: &State,
 ) -> Result<Option<Point>, AllocError>
-    requires searchable { IsSearchable task.now.problem.now task.now.options }
-    requires may { MayGoOn task.now.problem.now task.now.options going.old }
+    requires searchable { IsSearchable task.now.problem.now
+        (options_now task.now.options going.old) }
+    requires may { MayGoOn task.now.problem.now
+        (options_now task.now.options going.old) going.old }
     requires state { IsWithinRoot task.now.problem.now state.now }
     ensures { Searches task.now.problem.now task.now.options state.now going.old going.new result }
 {
     let alloc = *going.main.allocator();
-    let book = opened(&mut going.lemmas, going.budget, task, state)?;
+    let book = opened(&mut going.lemmas, going.budget, going.version, task, state)?;
     let book = searched(engine, alloc, book)?;
     let point = note_book(going, &book)?;
     drop(mem::replace(&mut going.lemmas, book.into_lemmas()?));
@@ -66,9 +68,11 @@ pub fn pass_leaf<R: Threads + Wait + Sync, G: Gate + Sync>(
     rule: &Rule,
     state: &State,
 ) -> Result<Option<Point>, AllocError>
-    requires searchable { IsSearchable task.now.problem.now task.now.options }
+    requires searchable { IsSearchable task.now.problem.now
+        (options_now task.now.options going.old) }
     requires share { IsShare task.now.share }
-    requires may { MayGoOn task.now.problem.now task.now.options going.old }
+    requires may { MayGoOn task.now.problem.now
+        (options_now task.now.options going.old) going.old }
     requires state { IsWithinRoot task.now.problem.now state.now }
     requires room { going.old.others < 2 ^ 63 }
     ensures { let own = is_own (share_of task.now.share) place in

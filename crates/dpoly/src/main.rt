@@ -18,6 +18,7 @@ mod resumption;
 mod solve;
 mod top;
 mod upgrade;
+mod upgrade_goal;
 mod walk;
 
 use ahead::is_refused;

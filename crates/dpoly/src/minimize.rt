@@ -10,25 +10,34 @@ ghost use Rattle.check_run.specs.Course.{RunEnds};
 ghost use Rattle.check_run.specs.Minimized.{CanMinimize};
 ghost use Rattle.check_run.specs.Run.{MinimizeHasCause, SameIn};
 ghost use Rattle.check_run.specs.Script.{IsAtomOf, IsWithin};
-ghost use Rattle.dpoly.specs.Minimize.{IsAcceptedFor, IsFoundAnswer, IsMinimizeAnswer, told_cause};
-ghost use Rattle.dpoly.specs.Search.{search_options as options_of};
+ghost use Rattle.dpoly.specs.Minimize.{IsAcceptedFor, IsFoundAnswer, IsMinimizeAnswer, first_options, told_cause};
 
 use crate::answers::{SearchAnswer, search_options, tell_left};
 use crate::leaf::Engine;
 use check_run::{Cause, GoalBounds, Status, end_no_goal, finish, goal_bounds};
-use command_line::MinimizeWords;
+use command_line::{MinimizeWords, Options as Asked};
 use cover_book::Book;
 use cover_data::Options;
 use desk::Desk;
 use least_search::{Ending, Found, Least, Lower, minimize};
 use least_text::{write_limited, write_over};
 use poly_graph::Problem;
-use solve_core::{Gate, solve};
+use solve_core::{Gate, search_on};
 use std::alloc::{AllocError, Global};
 use std::sync::Wait;
 use std::thread::Threads;
 
-// The book that a search for a problem with these options leaves.
+// The version of the format in which the first search begins.
+const FIRST: u32 = 2;
+
+// What the words ask of the first search.
+fn first_options(options: &Asked) -> Options
+    ensures { result ≡ first_options options.now }
+{
+    search_options(options).in_version(FIRST)
+}
+
+// The book that a search for a problem with these options leaves, which begins in their version.
 fn search_with<R: Threads + Wait + Sync, G: Gate + Sync>(
     engine: &Engine<'_, R, G>,
     alloc: Global,
@@ -38,7 +47,8 @@ fn search_with<R: Threads + Wait + Sync, G: Gate + Sync>(
     requires { IsWithinLimits problem.now options.now }
     ensures { IfOk result (IsBookOf problem.now options.now) }
 {
-    let book = solve(engine.rt, alloc, problem, options, engine.gate)?;
+    let opened = Book::new(alloc, problem.try_clone(alloc)?, *options)?;
+    let book = search_on(engine.rt, alloc, opened, engine.gate)?;
     Ok(book)
 }
 
@@ -54,9 +64,9 @@ fn search_least<R: Threads + Wait + Sync, G: Gate + Sync>(
     requires within { IsWithin problem.now }
     requires goal { goal < length problem.now.atoms }
     ensures { IfOk result
-        (IsLeast problem.now goal asked.now.gap_bits (options_of asked.now.options)) }
+        (IsLeast problem.now goal asked.now.gap_bits (first_options asked.now.options)) }
 {
-    let options = search_options(&asked.options);
+    let options = first_options(&asked.options);
     let searcher = |alloc: Global, problem: &Problem, options: &Options| -> Result<Book, AllocError>
         requires { IsWithinLimits problem.now options.now }
         ensures { IfOk result (IsBookOf problem.now options.now) }
@@ -84,7 +94,10 @@ fn certificate(alloc: Global, options: &Options, found: &Found) -> Result<Vec<u8
 {
     let point = found.point.space();
     match &found.lower {
-        Lower::Root(bound) => write_over(alloc, options, *bound, point),
+        Lower::Root(bound) => {
+            let options = options.in_version(found.version);
+            write_over(alloc, &options, *bound, point)
+        }
         Lower::Limit(book, bits, bound) => write_limited(alloc, book, *bits, *bound, point),
     }
 }
@@ -98,10 +111,10 @@ fn tell_found(
 ) -> Result<SearchAnswer, AllocError>
     requires { IsMinimize (seen_minimize asked.now) }
     ensures { (g : ℕ) →
-        IsFound problem.now g asked.now.gap_bits (options_of asked.now.options) found.now →
+        IsFound problem.now g asked.now.gap_bits (first_options asked.now.options) found.now →
         IfOk result (IsFoundAnswer (problem_of problem.now) g (seen_minimize asked.now)) }
 {
-    let cert = certificate(alloc, &search_options(&asked.options), found)?;
+    let cert = certificate(alloc, &first_options(&asked.options), found)?;
     let cause = cause_of(found.ending);
     let budget = u64::from(asked.options.budget);
     let bounds = GoalBounds {

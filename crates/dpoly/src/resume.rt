@@ -105,11 +105,11 @@ fn go_on<R: Threads + Wait + Sync, G: Gate + Sync>(
 
 // The certificate written again, with this answer.
 fn again(alloc: Global, cert: &[u8], text: Vec<u8>) -> Result<SearchAnswer, AllocError>
-    ensures cert { IfOk result (λ told. told.cert.items ≡ upgraded 1 cert.now) }
+    ensures cert { IfOk result (λ told. told.cert.items ≡ upgraded cert.now) }
     ensures fits { IfOk result (λ told. length told.cert.items ≤ most_bytes) }
     ensures text { IfOk result (λ told. told.text ≡ text) }
 {
-    let cert = upgrade(alloc, cert, 1)?;
+    let cert = upgrade(alloc, cert)?;
     Ok(SearchAnswer { cert, text })
 }
 

@@ -48,9 +48,13 @@ pub fn resume<R: Threads + Wait + Sync, G: Gate + Sync>(
         left,
         ..
     } = base;
-    let mut going = begun(alloc, lemmas, request.budget);
+    let mut going = begun(alloc, lemmas, request.budget, options.version);
     match walk(&mut going, &task, engine, &main, &left)? {
-        Some(point) => Ok(Resumed::Point(write_point(alloc, problem, &options, &point)?, point)),
+        Some(point) => {
+            let options = options.in_version(going.version);
+            let cert = write_point(alloc, problem, &options, &point)?;
+            Ok(Resumed::Point(cert, point))
+        }
         None => {
             let cert = written(alloc, &options, &lemma_lines, &going)?;
             let Going { own, others, .. } = going;

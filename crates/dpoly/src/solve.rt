@@ -8,8 +8,8 @@ ghost use Rattle.check_run.specs.Run.{DemoHasCause, SameIn, SolveHasCause};
 ghost use Rattle.check_run.specs.Script.{AreWithin, IsWithin};
 ghost use Rattle.cert_model.specs.SessionLaws.{IsSession};
 ghost use Rattle.cover_book.specs.Model.{IsOfRoot};
-ghost use Rattle.cover_book.specs.Session.{AreBooksOf};
 ghost use Rattle.problem_session.specs.Session.{problems_of};
+ghost use Rattle.solve_core.specs.Solved.{AreBooksInOneVersion};
 ghost use Rattle.dpoly.specs.Search.{search_options as options_of, AreLeftBy, AreSearchAnswers, IsLeftBy, IsSearchAnswer};
 
 use crate::answers::{SearchAnswer, search_options, tell, tell_all};
@@ -71,7 +71,7 @@ fn search_all<R: Threads + Wait + Sync, G: Gate + Sync>(
     requires session { IsSession (problems_of session.now) }
     requires within { AreWithin session.now }
     ensures books { IfOk result (λ v.
-        AreBooksOf (options_of options.now) [] session.now v.items) }
+        AreBooksInOneVersion (options_of options.now) session.now v.items) }
     ensures left { IfOk result (λ v. AreLeftBy options.now v.items) }
 {
     let asked = search_options(options);

@@ -11,9 +11,10 @@ use crate::minimize::minimize_script;
 use crate::plan::plan_session;
 use crate::resume::resume_inputs;
 use crate::solve::{solve_demo, solve_session};
-use crate::upgrade::upgrade_session;
+use crate::upgrade_goal::upgrade_read;
 use check_run::{
-    Status, end_halted, fetch_both, fetch_goal, fetch_session, fetch_several, run_check, say,
+    Status, end_halted, fetch_both, fetch_goal, fetch_session, fetch_several, fetch_with_goal,
+    run_check, say,
 };
 use command_line::{
     DemoWords, JoinWords, MinimizeWords, PlanWords, Refused, Request, ResumeWords, SolveWords,
@@ -94,8 +95,8 @@ fn run_upgrade<D: Desk>(alloc: Global, desk: &mut D, asked: UpgradeWords<'_>) ->
         out,
         bound,
     } = asked;
-    match fetch_session(&Reader, alloc, desk, script, bound) {
-        Ok(session) => upgrade_session(alloc, desk, cert, out, &session, bound),
+    match fetch_with_goal(&Reader, alloc, desk, script, bound) {
+        Ok(read) => upgrade_read(alloc, desk, cert, out, &read, bound),
         Err(stop) => end_halted(desk, stop),
     }
 }

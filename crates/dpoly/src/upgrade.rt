@@ -1,5 +1,5 @@
 // `upgrade`, from the problems of a script's checks to a certificate in the newest version.
-ghost use Rattle.std.specs.Prelude.{◌≡◌, [], ◌++◌, ◌+◌, ◌<◌, ◌^◌, OnOk, length};
+ghost use Rattle.std.specs.Prelude.{◌≡◌, [], ◌++◌, ◌+◌, ◌<◌, ◌^◌, None, OnOk, length};
 ghost use Rattle.problem_session.specs.Session.{problems_of};
 ghost use Rattle.cert_model.specs.SessionLaws.{IsSession};
 ghost use Rattle.cert_check.specs.Feeding.{bytes_taken, IsFedPiece};
@@ -80,20 +80,13 @@ fn read_kept<D: Desk>(
     }
 }
 
-// Writes an accepted certificate of so many checks in the newest version, and says so.
-fn write_upgraded<D: Desk>(
-    alloc: Global,
-    desk: &mut D,
-    name: &str,
-    kept: &[u8],
-    checks: usize,
-) -> Status
-    ensures ends { EndsOnUpgraded checks name.now kept.now
-        (D.sight desk.old) (D.sight desk.new) result }
+/// Writes an accepted certificate in the newest version, and says so.
+pub fn write_upgraded<D: Desk>(alloc: Global, desk: &mut D, name: &str, kept: &[u8]) -> Status
+    ensures ends { EndsOnUpgraded name.now kept.now (D.sight desk.old) (D.sight desk.new) result }
     ensures same { SameIn (D.sight desk.old) (D.sight desk.new) }
     ensures cause { UpgradeHasCause (D.sight desk.old) (D.sight desk.new) result }
 {
-    match upgrade(alloc, kept, checks) {
+    match upgrade(alloc, kept) {
         Ok(text) => finish(desk, name, &text, b"upgraded\n"),
         Err(_) => Status::NoMemory,
     }
@@ -110,7 +103,7 @@ pub fn upgrade_session<D: Desk>(
     bound: Option<u32>,
 ) -> Status
     requires { IsSession (problems_of session.now) }
-    ensures ends { EndsOnUpgrade session.now bound cert.now out.now
+    ensures ends { EndsOnUpgrade None session.now bound cert.now out.now
         (D.sight desk.old) (D.sight desk.new) result }
     ensures cause { UpgradeHasCause (D.sight desk.old) (D.sight desk.new) result }
     ensures script { (D.sight desk.new).script ≡ (D.sight desk.old).script }
@@ -122,7 +115,7 @@ pub fn upgrade_session<D: Desk>(
         Err(Denied::Memory) => return Status::NoMemory,
     }
     match read_kept(alloc, desk, session, bound) {
-        Ok(kept) => write_upgraded(alloc, desk, out, &kept, session.len()),
+        Ok(kept) => write_upgraded(alloc, desk, out, &kept),
         Err(Unconfirmed::Fault(fault)) => refuse(alloc, desk, fault),
         Err(Unconfirmed::Failed) => Status::InFailed,
     }

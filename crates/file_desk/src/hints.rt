@@ -108,7 +108,7 @@ const CERT_HINTS: [Hint; 5] = [
     Hint {
         answer: "certificate fault 1 BadHeader line 1\n",
         at: b"dpoly 4\n",
-        help: "it is a certificate of `minimize`: `check` takes it with a script whose goal is in force; `resume`, `join` and `upgrade` do not, so call `minimize` again, with a greater `--budget`",
+        help: "it is a certificate of `minimize`: `check` and `upgrade` take it with a script whose goal is in force; `resume` and `join` do not, so call `minimize` again, with a greater `--budget`",
     },
     Hint {
         answer: "certificate fault 1 BadHeader line 1\n",

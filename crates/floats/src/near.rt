@@ -31,6 +31,27 @@ impl Span {
         }
     }
 
+    /// Its sums with another one's numbers.
+    pub fn plus(self, other: Span) -> Span {
+        Span {
+            low: self.low + other.low,
+            high: self.high + other.high,
+        }
+    }
+
+    /// Its numbers with the other sign.
+    pub fn negated(self) -> Span {
+        Span {
+            low: -self.high,
+            high: -self.low,
+        }
+    }
+
+    /// The greatest size of its numbers.
+    pub fn size(self) -> f64 {
+        greater(self.high, -self.low)
+    }
+
     /// Its products with another one's numbers.
     pub fn times(self, other: Span) -> Span {
         let first = self.low * other.low;

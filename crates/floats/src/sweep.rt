@@ -1,14 +1,15 @@
 // The coefficients of terms at a point, by one sweep down over the nodes of each.
-use crate::lists::{add, at};
+use crate::due::DueNodes;
+use crate::lists::{add, at, set};
 use poly_graph::{Graph, Node};
 use std::alloc::{AllocError, Global};
 
-/// For each node the weight that it hands down to its children, and by bits, 64 a word, which nodes are still to do so.
-/// Between sweeps there are none.
+/// For each node the weight that it hands down to its children, and which nodes are still to do so. Between sweeps there
+/// are none.
 #[derive(Drop)]
 pub struct Adjoints {
     weights: Vec<f64, Global>,
-    due: Vec<u64, Global>,
+    due: DueNodes,
 }
 
 impl Adjoints {
@@ -16,32 +17,26 @@ impl Adjoints {
     pub fn of(alloc: Global, graph: &Graph) -> Result<Adjoints, AllocError> {
         Ok(Adjoints {
             weights: vec![in alloc; 0.0; graph.len()]?,
-            due: vec![in alloc; 0; graph.len() / 64 + 1]?,
+            due: DueNodes::of(alloc, graph.len())?,
         })
     }
 
     // Adds to the weight of a node, which then is due.
     fn add(&mut self, n: u32, weight: f64) {
-        let word = n as usize / 64;
-        if word < self.due.len() {
-            self.due[word] |= 1 << (n % 64);
-        }
+        self.due.add(n);
         add(&mut self.weights, n as usize, weight);
     }
 
     // The last node among those of this word that are due, and its weight, which is taken from it.
     fn take(&mut self, word: usize) -> Option<(usize, f64)> {
-        if word >= self.due.len() || self.due[word] == 0 {
-            return None;
+        match self.due.take(word) {
+            Some(n) => {
+                let weight = at(&self.weights, n);
+                set(&mut self.weights, n, 0.0);
+                Some((n, weight))
+            }
+            None => None,
         }
-        let bit = 63_u32.saturating_sub(self.due[word].leading_zeros());
-        self.due[word] ^= 1_u64.wrapping_shl(bit);
-        let n = word.saturating_mul(64).saturating_add(bit as usize);
-        let weight = at(&self.weights, n);
-        if n < self.weights.len() {
-            self.weights[n] = 0.0;
-        }
-        Some((n, weight))
     }
 }
 

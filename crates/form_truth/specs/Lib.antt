@@ -1,3 +1,4 @@
 pub mod Conjuncts
 pub mod Roots
 pub mod Truth
+pub mod Versions

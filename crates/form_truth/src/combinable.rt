@@ -6,15 +6,20 @@ ghost use Rattle.dyadic.specs.Views.{dyadic_of};
 ghost use Rattle.poly_graph.specs.ProblemViews.{problem_of};
 ghost use Rattle.cover_model.specs.Combination.{only};
 ghost use Rattle.cover_model.specs.State.{state_of, in_yes};
-ghost use Rattle.cover_model.specs.Rules.{are_ordered, is_combination, are_combinable, in_no_one_sided};
+ghost use Rattle.cover_model.specs.Rules.{are_ordered, has_version_2, most_pairs, is_combination, are_combinable, can_combine, in_no_one_sided};
 ghost use Rattle.cover_model.specs.Views.{multipliers_of};
+ghost use Rattle.form_truth.specs.Versions.{at_version};
 
 use cover_model::is_one_sided;
 use dyadic::Dy;
 use poly_graph::{Lits, Mark, Problem};
 
-// The most atoms of a combination.
-const MOST_PAIRS: usize = 64;
+// The most pairs of a combination in this version of the format.
+fn most_pairs(version: u32) -> usize
+    ensures { result ≡ most_pairs (at_version version) }
+{
+    if version >= 5 { 512 } else { 64 }
+}
 
 // Whether the number is another one than 0.
 fn is_other_than_nought(by: Dy) -> bool
@@ -53,12 +58,21 @@ fn are_ordered(multipliers: &[(u32, Dy)]) -> bool
     true
 }
 
-// Whether these are from 1 to 64 pairs in order.
-fn is_combination(multipliers: &[(u32, Dy)]) -> bool
-    ensures { result ≡ is_combination (multipliers_of multipliers.now) }
+// Whether these are pairs in order, one or more, and no more than this version allows.
+fn is_combination(multipliers: &[(u32, Dy)], version: u32) -> bool
+    ensures { result ≡ is_combination (at_version version) (multipliers_of multipliers.now) }
 {
     let count = multipliers.len();
-    0 < count && count <= MOST_PAIRS && are_ordered(multipliers)
+    let most = most_pairs(version);
+    0 < count && count <= most && are_ordered(multipliers)
+}
+
+// Whether this version has combinations, and these are the pairs of one.
+fn has_combination(multipliers: &[(u32, Dy)], version: u32) -> bool
+    ensures { let s = at_version version in
+        result ≡ (has_version_2 s && is_combination s (multipliers_of multipliers.now)) }
+{
+    version >= 2 && is_combination(multipliers, version)
 }
 
 // Whether the atom is there, and is marked yes, or is marked no and an inequality.
@@ -94,12 +108,13 @@ fn are_combinable(problem: &Problem, lits: &Lits, multipliers: &[(u32, Dy)]) -> 
     true
 }
 
-/// Whether these atoms with their multipliers may be combined at a state with these marks.
-pub fn can_combine(problem: &Problem, lits: &Lits, multipliers: &[(u32, Dy)]) -> bool
+/// Whether these atoms with their multipliers may be combined at a state with these marks, in this version of the
+/// format.
+pub fn can_combine(problem: &Problem, lits: &Lits, multipliers: &[(u32, Dy)], version: u32) -> bool
     requires { length lits.now ≡ length problem.now.atoms }
     ensures { (space : Domains) → let ms = multipliers_of multipliers.now in
-        result ≡ (is_combination ms &&
-        are_combinable (problem_of problem.now) (state_of space lits.now) ms) }
+        result ≡ can_combine (problem_of problem.now) (at_version version)
+        (state_of space lits.now) ms }
 {
-    is_combination(multipliers) && are_combinable(problem, lits, multipliers)
+    has_combination(multipliers, version) && are_combinable(problem, lits, multipliers)
 }

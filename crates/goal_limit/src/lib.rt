@@ -1,5 +1,5 @@
 //! A problem with a limit of its goal: the search for least values looks there for better points, and a certificate of
-//! version 4 may have a cover of it.
+//! one may have a cover of it.
 #![tactic(auto)]
 
 mod constants;

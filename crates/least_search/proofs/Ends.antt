@@ -54,12 +54,13 @@ ending_of a b s x e h =
 
 -- bounds, and why the search for them ended, are what is found
 pub found_of : (a : Aim) (b : Bounds) (e : Ending) → AreBoundsOf a b → IsEndingAt a b (Some e) → is_crossed_box (problem_of a.problem.now) ≡ false →
-    IsFound a.problem.now a.goal a.gap_bits a.options.now (record { lower = b.lower; point = b.point; upper = b.upper; ending = e })
+    IsFound a.problem.now a.goal a.gap_bits a.options.now (record { lower = b.lower; point = b.point; upper = b.upper; ending = e; version = b.version })
 found_of a b e h ends clear =
     let q : Parts = a.problem.now in
     let o : Options = a.options.now in
     let low : Option Dyadic = option_map dyadic_of (bound_of b.lower) in
     record {
+      version = h.version;
       lower = h.lower;
       root = h.root;
       shown = h.shown;

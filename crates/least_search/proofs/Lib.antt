@@ -7,3 +7,4 @@ pub mod Rows
 pub mod Searches
 pub mod Shown
 pub mod Targets
+pub mod Versions

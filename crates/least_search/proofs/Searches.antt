@@ -9,7 +9,7 @@ use Rattle.dyadic.specs.declared.dy.Ext as code
 use Rattle.interval_model.specs.Space.{Space}
 use Rattle.poly_graph.specs.ProblemViews.{Parts, problem_of}
 use Rattle.cover_data.specs.declared.margins.Options.{Options}
-use Rattle.cover_data.specs.Margins.{margins_of}
+use Rattle.cover_data.specs.Margins.{margins_in, margins_of, options_in}
 use Rattle.cert_model.specs.Due.{is_crossed_box}
 use Rattle.cert_model.specs.Least.{lower_end, upper_at}
 use Rattle.cover_book.specs.Model.{BookModel}
@@ -25,7 +25,7 @@ use Rattle.least_search.specs.declared.limits.Limited.{Limited}
 use Rattle.least_search.specs.declared.limits.Phase.{Phase}
 use Rattle.goal_limit.specs.Tries.{Span, is_between}
 use Rattle.least_search.specs.Limits.{IsLimited, IsNotBelow, StaysAbove}
-use Rattle.least_search.specs.Found.{AreBoundsOf, AreFar, AreUsed, Begins, BeginsFor, IsBookOf, IsLater, IsLimitSearch, IsLower, IsNextSearch, IsSearchOf, IsShownFor, IsUsed, Leaves, low_end, span_of, span_to}
+use Rattle.least_search.specs.Found.{AreBoundsOf, AreFar, AreUsed, Begins, BeginsFor, IsBookOf, IsLater, IsLimitSearch, IsLower, IsNextSearch, IsSearchOf, IsSearchVersion, IsShownFor, IsUsed, Leaves, low_end, span_of, span_to}
 use Rattle.least_search.proofs.Near.{at_most_itself, at_most_through, between_above, between_wider}
 
 -- ---- with better bounds
@@ -83,12 +83,12 @@ more-used : (q : Parts) (g : ℕ) (o : Options) (low high : Ext) (first b : Book
 more-used q g o low high first b later h u = record { start = h.start; kept = h.kept; best = h.best; all = All-cons (IsUsed q g o low high) b later u h.all }
 
 -- the book of a problem with a limit, asked for with another budget
-pub limit_search : (q : Parts) (g : ℕ) (o n : Options) (l : Limited) (b : BookModel) → IsLimited q g l → margins_of n ≡ margins_of o → n.bound ≡ o.bound → IsBookOf l.problem n b →
+pub limit_search : (q : Parts) (g : ℕ) (o n : Options) (v : ℕ) (l : Limited) (b : BookModel) → IsLimited q g l → margins_of n ≡ margins_in v (margins_of o) → n.bound ≡ o.bound → IsBookOf l.problem n b →
     IsLimitSearch q g o l.bits (dyadic_of l.limit) b
-limit_search q g o n l b h m e s = record {
+limit_search q g o n v l b h m e s = record {
   takes = h.takes;
   problem = ap problem_of s.problem ∙ h.problem;
-  margins = ap margins_of s.options ∙ m;
+  margins = ap margins_of s.options ∙ ap (margins_in b.options.version) m;
   bound = ap (λ (x : Options). x.bound) s.options ∙ e;
   alone = s.alone;
   root = s.root;
@@ -133,13 +133,14 @@ width_no_point b e = no_point b (λ d. narrow-differs (sym e ∙ d))
 
 -- those of the declared box and of the first point
 pub first_bounds : (a : Aim) (b : Bounds) (low : Option Dy) → b.lower ≡ shown.Root low → IsRootBound (problem_of a.problem.now) a.goal (option_map dyadic_of low) → is_crossed_box (problem_of a.problem.now) ≡ false →
-    IsShownFor a b.point → ext_of b.upper ≡ upper_at (problem_of a.problem.now) a.goal b.point → b.tried ≡ None → BeginsFor a b.point b.budget → AreBoundsOf a b
+    IsShownFor a b.point → ext_of b.upper ≡ upper_at (problem_of a.problem.now) a.goal b.point → b.tried ≡ None → IsSearchVersion b.version → BeginsFor a b.point b.budget → AreBoundsOf a b
 unfolding first_leaves
-first_bounds a b low is bound clear sure upper none begins =
+first_bounds a b low is bound clear sure upper none version begins =
     let q : Parts = a.problem.now in
     let ends : low_end b.lower ≡ lower_end (root_low (problem_of q) a.goal) = ap low_end is ∙ ap lower_end (bound clear) in
     record {
-      lower = subst (IsLower q a.goal a.options.now) (sym is) bound;
+      version = version;
+      lower = subst (IsLower q a.goal (options_in b.version a.options.now)) (sym is) bound;
       root = subst (λ (e : Ext). ext_at_most (lower_end (root_low (problem_of q) a.goal)) e ≡ true) (sym ends) (at_most_itself (lower_end (root_low (problem_of q) a.goal)));
       shown = sure;
       upper = upper;
@@ -151,6 +152,7 @@ first_bounds a b low is bound clear sure upper none begins =
 -- with something else to search for
 pub phased_bounds : (a : Aim) (b : Bounds) (p : Phase) → AreBoundsOf a b → AreBoundsOf a (record b { phase = p })
 phased_bounds a b p h = record {
+  version = h.version;
   lower = h.lower;
   root = h.root;
   shown = h.shown;
@@ -164,6 +166,7 @@ phased_bounds a b p h = record {
 pub better_bounds : (a : Aim) (b : Bounds) (x : Space) (e : code.Ext) → AreBoundsOf a b → IsShownFor a x → ext_of e ≡ upper_at (problem_of a.problem.now) a.goal x → ext_at_most (ext_of e) (ext_of b.upper) ≡ true →
     AreBoundsOf a (record b { point = x; upper = e })
 better_bounds a b x e h sure is falls = record {
+  version = h.version;
   lower = h.lower;
   root = h.root;
   shown = sure;
@@ -200,18 +203,19 @@ module _ (a : Aim) (b : Bounds) (l : Limited) (book : BookModel) (h : AreBoundsO
   }
 
   -- where it left nothing, its limit is the lower bound
-  pub closed_bounds : (rest : ℕ) → verdict_of book ≡ verdict.Unsat → b.tried ≡ None → rest + (1 + book.branches) ≡ b.budget → AreBoundsOf a (record b { lower = shown.Limit book l.bits l.limit; budget = rest })
+  pub closed_bounds : (rest : ℕ) → book.options.version ≡ b.version → verdict_of book ≡ verdict.Unsat → b.tried ≡ None → rest + (1 + book.branches) ≡ b.budget → AreBoundsOf a (record b { lower = shown.Limit book l.bits l.limit; budget = rest })
   unfolding more_leaves
-  closed_bounds rest e none sum =
+  closed_bounds rest same e none sum =
       let rises : ext_at_most (low_end b.lower) limit ≡ true = between_above (span_of a.gap_bits b) limit s.between in
       let before = used_better q a.goal a.options.now (low_end b.lower) limit (ext_of b.upper) (ext_of b.upper) rises (at_most_itself (ext_of b.upper)) h.searches.first h.searches.later h.used in
       let this = used-by limit (ext_of b.upper) (λ f. at_most_itself limit)
       (subst (λ (x : Option Space). IfSome x (λ y. ext_at_most (ext_of b.upper) (upper_at (problem_of q) a.goal y) ≡ true)) (sym (closed_no_point book e)) tt) in
       record {
+        version = h.version;
         lower = record {
           takes = s.searched.takes;
           problem = s.searched.problem;
-          margins = s.searched.margins;
+          margins = s.searched.margins ∙ ap (λ (v : ℕ). margins_in v (margins_of a.options.now)) same;
           bound = s.searched.bound;
           alone = s.searched.alone;
           root = s.searched.root;
@@ -230,6 +234,7 @@ module _ (a : Aim) (b : Bounds) (l : Limited) (book : BookModel) (h : AreBoundsO
       IfSome book.point (λ x. ext_at_most (ext_of v.upper) (upper_at (problem_of q) a.goal x) ≡ true) → rest + (1 + book.branches) ≡ b.budget → AreBoundsOf a (record v { budget = rest })
   unfolding more_leaves
   bounds_behind v rest k same left undecided found sum = record {
+    version = k.version;
     lower = k.lower;
     root = k.root;
     shown = k.shown;
@@ -247,6 +252,7 @@ pub planned_bounds : (a : Aim) (b new : Bounds) (l : Limited) → AreBoundsOf a 
 planned_bounds a b new l h same above between =
     let limit : Ext = finite (dyadic_of l.limit) in
     subst (AreBoundsOf a) (sym same) (record {
+      version = h.version;
       lower = h.lower;
       root = h.root;
       shown = h.shown;

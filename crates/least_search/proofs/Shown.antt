@@ -13,9 +13,8 @@ use Rattle.poly_graph.specs.Term.{Term, Kind}
 use Rattle.cover_model.specs.Space.{enclosure, range, IsGridSpace}
 use Rattle.cover_model.specs.State.{Loosenings, delta_of, sure_at, domain_is, sure}
 use Rattle.cover_model.specs.Fits.{IsShownAt}
-use Rattle.cover_data.specs.Margins.{loosenings_of}
+use Rattle.cover_data.specs.Margins.{loosenings_of, margins_in}
 use Rattle.cover_data.specs.declared.margins.Margins.{Margins}
-use Rattle.cover_data.specs.declared.margins.Options.{Options}
 use Rattle.cert_model.specs.Limited.{is_limit, limited}
 use Rattle.cert_model.proofs.Limited.{limited_term}
 use Rattle.goal_limit.specs.Limits.{has_room, takes_limit}
@@ -67,12 +66,16 @@ module _ (p : Problem) (good : IsProblem p) (g : ℕ) (there : g < length p.atom
 is-one : (p : Problem) (k : ℕ) (d : Dyadic) → takes_limit p k d ≡ true → IsTrue (is_limit p k d)
 is-one p k d h = (both_true (has_room p) (is_limit p k d) h).1
 
+-- a point is shown in one version as in another
+shown-again : (p : Problem) (m : Margins) (v : ℕ) (x : Space) → IsShownAt p (loosenings_of (margins_in v m)) x → IsShownAt p (loosenings_of m) x
+shown-again p m v x h = record { single = h.single; surely = h.surely; near = h.near }
+
 -- what a book of the problem with a limit shows is shown for the problem
 shown-before : (q : Parts) → IsWhole q → (g : ℕ) → g < length q.atoms → (k : ℕ) (d : Dyadic) → takes_limit (problem_of q) k d ≡ true → (p : Problem) → p ≡ limited (problem_of q) g k d →
-    (m n : Margins) → m ≡ n → (x : Space) → IsShownAt p (loosenings_of m) x → IsShownAt (problem_of q) (loosenings_of n) x
-shown-before q w g there k d takes p e m n f x h =
+    (m n : Margins) (v : ℕ) → m ≡ margins_in v n → (x : Space) → IsShownAt p (loosenings_of m) x → IsShownAt (problem_of q) (loosenings_of n) x
+shown-before q w g there k d takes p e m n v f x h =
     shown-for (problem_of q) w.problem g there k d (is-one (problem_of q) k d takes) (loosenings_of n) x
-    (subst (λ (r : Problem). IsShownAt r (loosenings_of n) x) e (subst (λ (l : Margins). IsShownAt p (loosenings_of l) x) f h))
+    (subst (λ (r : Problem). IsShownAt r (loosenings_of n) x) e (shown-again p n v x (subst (λ (l : Margins). IsShownAt p (loosenings_of l) x) f h)))
 
 -- ---- books with a point
 
@@ -83,9 +86,4 @@ book-shows b w x e = (subst (λ (o : Option Space). IfSome o (λ (y : Space). Is
 pub point_of : (a : Aim) → IsReady a → (l : Limited) (b : BookModel) → IsSearchOf a l b → (x : Space) → b.point ≡ Some x → IsShownFor a x
 point_of a r l b s x e =
     shown-before a.problem.now r.whole a.goal r.goal l.bits (dyadic_of l.limit) s.takes (problem_in b) s.problem
-    (margins_of b.options) (margins_of a.options.now) s.margins x (book-shows b s.book x e)
-
--- ---- margins
-
-pub margins_are : (m : Margins) (o : Options) → m.delta_bits ≡ o.delta_bits → m.margin_bits ≡ o.margin_bits → m.least_bits ≡ o.least_bits → m ≡ margins_of o
-margins_are m o e f g = λ i. record { delta_bits = e i; margin_bits = f i; least_bits = g i }
+    (margins_of b.options) (margins_of a.options.now) b.options.version s.margins x (book-shows b s.book x e)

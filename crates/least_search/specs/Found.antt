@@ -1,5 +1,5 @@
 -- What a search for a least value finds.
-use Rattle.std.specs.Prelude.{◌≡◌, ◌≢◌, ◌+◌, ◌*◌, ◌<◌, ℕ, suc, List, [], ◌∷◌, All, Option, Some, None, IfSome, true, false, option_map}
+use Rattle.std.specs.Prelude.{◌≡◌, ◌≢◌, ◌⊎◌, ◌+◌, ◌*◌, ◌<◌, ℕ, suc, List, [], ◌∷◌, All, Option, Some, None, IfSome, true, false, cond, nat_le, option_map}
 use Rattle.dyadic.specs.Rounding.{Dyadic, Ext, ext_at_most, finite}
 use Rattle.dyadic.specs.Views.{dyadic_of, ext_of}
 use Rattle.dyadic.specs.declared.dy.Dy.{Dy}
@@ -8,7 +8,7 @@ use Rattle.poly_graph.specs.ProblemViews.{Parts, problem_of}
 use Rattle.interval_model.specs.Space.{Space}
 use Rattle.cover_model.specs.Fits.{IsShownAt}
 use Rattle.cover_data.specs.declared.margins.Options.{Options}
-use Rattle.cover_data.specs.Margins.{margins_of, loosenings_of}
+use Rattle.cover_data.specs.Margins.{margins_in, margins_of, loosenings_of, options_in}
 use Rattle.cert_model.specs.Due.{is_crossed_box}
 use Rattle.cert_model.specs.Least.{IsSettled, lower_end, upper_at}
 use Rattle.cert_model.specs.Limited.{limited}
@@ -16,7 +16,7 @@ use Rattle.goal_limit.specs.Limits.{takes_limit}
 use Rattle.goal_limit.specs.Lows.{root_low}
 use Rattle.cover_book.specs.Keeps.{IsBook}
 use Rattle.cover_book.specs.Left.{LeavesDue}
-use Rattle.cover_book.specs.Model.{BookModel, IsOfRoot, problem_in}
+use Rattle.cover_book.specs.Model.{BookModel, IsOfRoot, problem_in, raised}
 use Rattle.cover_book.specs.Verdict.{verdict_of}
 use Rattle.cover_book.specs.declared.verdict.BookVerdict.TheVariants as verdict
 use Rattle.least_search.specs.Aims.{IsRootBound}
@@ -34,27 +34,29 @@ use Rattle.least_search.specs.declared.limits.Phase.TheVariants as phase
 use Rattle.least_search.specs.declared.bounds.Bounds.{Bounds}
 use Rattle.least_search.specs.declared.aim.Aim.{Aim}
 
+-- ---- versions
+
+-- the version in which a search begins or ends
+abbrev pub IsSearchVersion : ℕ → Type 0
+IsSearchVersion v = (v ≡ 2) ⊎ (v ≡ 5)
+
+-- the version in which a search ends that begins in version v
+abbrev pub IsVersionAfter : ℕ → ℕ → Type 0
+IsVersionAfter v w = (w ≡ v) ⊎ (w ≡ 5)
+
 -- ---- books
 
--- what a searcher gives of a problem, asked for by options: a book of both, which opened in the root state with no lemmas, with an answer
+-- what a searcher gives of a problem, asked for by options: a book of both, but that it may be in version 5, which opened in the root state with no
+-- lemmas, with an answer
 pub record IsBookOf (q : Parts) (o : Options) (b : BookModel) : Type 0 where
   pub problem : b.problem ≡ q
-  pub options : b.options ≡ o
+  pub version : IsVersionAfter o.version b.options.version
+  pub options : b.options ≡ options_in b.options.version o
   pub alone : b.kept ≡ []
   pub root : IsOfRoot b
   pub book : IsBook b
   pub verdict : verdict_of b ≢ verdict.NotYet
   pub left : LeavesDue b
-
--- what a searcher leaves of a problem, asked for margins and a bound as in the options
-pub record IsSearched (o : Options) (q : Parts) (b : BookModel) : Type 0 where
-  pub problem : b.problem ≡ q
-  pub margins : margins_of b.options ≡ margins_of o
-  pub bound : b.options.bound ≡ o.bound
-  pub alone : b.kept ≡ []
-  pub root : IsOfRoot b
-  pub book : IsBook b
-  pub verdict : verdict_of b ≢ verdict.NotYet
 
 -- ---- the searches of a search for a least value
 
@@ -62,11 +64,11 @@ pub record IsSearched (o : Options) (q : Parts) (b : BookModel) : Type 0 where
 abbrev pub span_to : Problem → ℕ → Space → Span
 span_to p g x = record { low = root_low p g; high = upper_at p g x; gap = 0 }
 
--- what a search of the problem with a limit of the goal leaves, asked for margins and a bound as in the options
+-- what a search of the problem with a limit of the goal leaves, asked for margins and a bound as in the options, in some version
 pub record IsLimitSearch (q : Parts) (g : ℕ) (o : Options) (k : ℕ) (d : Dyadic) (b : BookModel) : Type 0 where
   pub takes : takes_limit (problem_of q) k d ≡ true
   pub problem : problem_in b ≡ limited (problem_of q) g k d
-  pub margins : margins_of b.options ≡ margins_of o
+  pub margins : margins_of b.options ≡ margins_in b.options.version (margins_of o)
   pub bound : b.options.bound ≡ o.bound
   pub alone : b.kept ≡ []
   pub root : IsOfRoot b
@@ -149,10 +151,19 @@ abbrev pub IsLower : Parts → ℕ → Options → Lower → Type 0
 IsLower q g o (shown.Root low) = IsRootBound (problem_of q) g (option_map dyadic_of low)
 IsLower q g o (shown.Limit b k d) = IsClosed q g o b k (dyadic_of d)
 
--- The bounds so far: what shows the lower one, which is not below that of the declared box, a point that is shown, the upper end of the goal there, a last
--- limit at which a probe decided nothing, which is not below the lower bound, and what is left of the budget.
+-- what shows the bound, where the last search ended in this version: what is of version 5 then
+abbrev pub raised_lower : Lower → Lower
+raised_lower (shown.Root low) = shown.Root low
+raised_lower (shown.Limit b k d) = shown.Limit (raised b) k d
+
+abbrev pub lower_behind : ℕ → Lower → Lower
+lower_behind v l = cond (nat_le 5 v) (raised_lower l) l
+
+-- The bounds so far: what shows the lower one, in their version, which is not below that of the declared box, a point that is shown, the upper end of the
+-- goal there, a last limit at which a probe decided nothing, which is not below the lower bound, and what is left of the budget.
 pub record IsBounds (q : Parts) (g : ℕ) (o : Options) (b : Bounds) : Type 0 where
-  pub lower : IsLower q g o b.lower
+  pub version : IsSearchVersion b.version
+  pub lower : IsLower q g (options_in b.version o) b.lower
   pub root : IsAboveRoot q g b.lower
   pub shown : IsShownAt (problem_of q) (loosenings_of (margins_of o)) b.point
   pub upper : ext_of b.upper ≡ upper_at (problem_of q) g b.point
@@ -236,9 +247,10 @@ IsEndingAt a b e = IfSome e (IsEnding a.problem.now a.goal a.options.now b.budge
 abbrev pub found_span : Parts → ℕ → ℕ → Found → Span
 found_span q g gap f = record { low = option_map dyadic_of (bound_of f.lower); high = upper_at (problem_of q) g f.point; gap = gap }
 
--- `left` is what the searches leave of the budget
+-- What shows the lower bound is in the version of the last search; `left` is what the searches leave of the budget.
 pub record IsFound (q : Parts) (g gap : ℕ) (o : Options) (f : Found) : Type 0 where
-  pub lower : IsLower q g o f.lower
+  pub version : IsSearchVersion f.version
+  pub lower : IsLower q g (options_in f.version o) f.lower
   pub root : IsAboveRoot q g f.lower
   pub shown : IsShownAt (problem_of q) (loosenings_of (margins_of o)) f.point
   pub upper : ext_of f.upper ≡ upper_at (problem_of q) g f.point
@@ -249,12 +261,10 @@ pub record IsFound (q : Parts) (g gap : ℕ) (o : Options) (f : Found) : Type 0 
   pub near : IsSettled gap (option_map dyadic_of (bound_of f.lower)) (upper_at (problem_of q) g f.point) → f.ending ≡ ending.Minimum
   pub ending : EndsFor q g o left (found_span q g gap f) f.ending
 
--- the book of the first search, which keeps no point, has all its options
+-- the book of the first search, which keeps no point
 pub record IsFirst (q : Parts) (o : Options) (b : BookModel) : Type 0 where
-  pub searched : IsSearched o q b
-  pub options : b.options ≡ o
+  pub searched : IsBookOf q o b
   pub no_point : b.point ≡ None
-  pub left : LeavesDue b
 
 abbrev pub IsLeast : Parts → ℕ → ℕ → Options → Least → Type 0
 IsLeast q g gap o (least.NoPoint b) = IsFirst q o b

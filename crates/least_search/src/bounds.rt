@@ -14,7 +14,8 @@ use dyadic::{Dy, Ext, add_down, at_most, two_to_minus};
 use std::alloc::{AllocError, Global};
 
 /// The bounds so far, what is left of the budget, what the next search is for, the last limit, if there is one, at which a
-/// probe decided nothing since the lower bound or a closing search changed something, and the least budget of a probe.
+/// probe decided nothing since the lower bound or a closing search changed something, the least budget of a probe, and the
+/// version of the format in which the next search begins.
 #[derive(Drop)]
 pub(crate) struct Bounds {
     pub lower: Lower,
@@ -24,6 +25,7 @@ pub(crate) struct Bounds {
     pub phase: Phase,
     pub tried: Option<Dy>,
     pub patience: u32,
+    pub version: u32,
 }
 
 /// Whether the bounds are as near as was asked.

@@ -33,6 +33,8 @@ pub struct Found {
     /// The upper end of the goal's enclosure over the point.
     pub upper: Ext,
     pub ending: Ending,
+    /// The version of the format in which the last search ended; a book that shows the lower bound is in it.
+    pub version: u32,
 }
 
 /// What comes of a search for a least value.

@@ -9,7 +9,7 @@ ghost use Rattle.cover_book.specs.Limits.{IsWithinLimits};
 ghost use Rattle.cover_book.specs.Verdict.{verdict_of};
 ghost use Rattle.cover_book.specs.declared.verdict.BookVerdict.TheVariants as verdicts;
 ghost use Rattle.least_search.specs.Aims.{IsReady, IsSameAim};
-ghost use Rattle.least_search.specs.Found.{AreBoundsOf, AreFar, BeginsFor, IsBookOf, IsEndingAt, IsFound, IsLeast, IsNextSearch, IsSearchOf, IsShownFor, bound_of, span_of, weight};
+ghost use Rattle.least_search.specs.Found.{AreBoundsOf, AreFar, BeginsFor, IsBookOf, IsEndingAt, IsFound, IsLeast, IsNextSearch, IsSearchOf, IsSearchVersion, IsShownFor, IsVersionAfter, bound_of, lower_behind, span_of, weight};
 ghost use Rattle.least_search.specs.Limits.{IsLimited, IsNotBelow, StaysAbove, span_in};
 ghost use Rattle.least_search.specs.declared.limits.Phase.TheVariants as phase;
 
@@ -109,6 +109,8 @@ fn search_limited<F: Fn(Global, &Problem, &Options) -> Result<Book, AllocError>>
     requires bounds { AreBoundsOf aim.now bounds.now }
     requires budget { 0 < bounds.now.budget }
     ensures book { IfOk result (IsSearchOf aim.now limited.now) }
+    ensures version { IfOk result (λ b.
+        IsVersionAfter bounds.now.version b.options.version) }
     ensures less { IfOk result (λ b. b.branches < bounds.now.budget) }
 {
     let options = Options {
@@ -118,6 +120,7 @@ fn search_limited<F: Fn(Global, &Problem, &Options) -> Result<Book, AllocError>>
             bounds.budget,
             bounds.patience,
         ),
+        version: bounds.version,
         ..*aim.options
     };
     let book = searcher(alloc, &limited.problem, &options)?;
@@ -128,6 +131,7 @@ fn search_limited<F: Fn(Global, &Problem, &Options) -> Result<Book, AllocError>>
 fn take_closed(aim: &Aim<'_>, bounds: &mut Bounds, limited: Limited, book: Book)
     requires bounds { AreBoundsOf aim.now bounds.old }
     requires search { IsNextSearch aim.now bounds.old limited book }
+    requires version { book.options.version ≡ bounds.old.version }
     requires closed { verdict_of book ≡ verdicts.Unsat }
     requires tried { bounds.old.tried ≡ None }
     ensures bounds { AreBoundsOf aim.now bounds.new }
@@ -189,6 +193,7 @@ fn take_by_verdict(
     requires bounds { AreBoundsOf aim.old bounds.old }
     requires far { AreFar (span_of aim.old.gap_bits bounds.old) }
     requires search { IsNextSearch aim.old bounds.old limited book }
+    requires version { book.options.version ≡ bounds.old.version }
     requires tried { verdict_of book ≡ verdicts.Unsat → bounds.old.tried ≡ None }
     ensures ready { IsReady aim.new }
     ensures same { IsSameAim aim.old aim.new }
@@ -220,6 +225,19 @@ fn take_by_verdict(
     }
 }
 
+// The version in which a search ended is that of what shows the lower bound, and of the next search.
+fn go_over(bounds: &mut Bounds, version: u32)
+    ensures { bounds.new ≡ record bounds.old
+        { lower = lower_behind version bounds.old.lower; version = version } }
+{
+    if version >= 5 {
+        if let Lower::Limit(book, _, _) = &mut bounds.lower {
+            book.raise();
+        }
+    }
+    bounds.version = version;
+}
+
 // What the next search is for, behind one of this verdict and limit, and with which budget at least.
 fn plan_next(bounds: &mut Bounds, verdict: BookVerdict, limit: Dy, near: bool)
     ensures same { bounds.new ≡ record bounds.old
@@ -245,6 +263,7 @@ fn take_book(
     requires bounds { AreBoundsOf aim.old bounds.old }
     requires far { AreFar (span_of aim.old.gap_bits bounds.old) }
     requires search { IsNextSearch aim.old bounds.old limited book }
+    requires version { IsVersionAfter bounds.old.version book.options.version }
     ensures ready { IsReady aim.new }
     ensures same { IsSameAim aim.old aim.new }
     ensures bounds { AreBoundsOf aim.old bounds.new }
@@ -254,6 +273,7 @@ fn take_book(
     let phase = bounds.phase;
     let gaps = aim.gap_bits.saturating_sub(1);
     let near = is_settled(Some(limited.limit), bounds.upper, gaps);
+    go_over(bounds, book.options().version);
     plan_next(bounds, book.verdict(), limited.limit, near);
     take_by_verdict(alloc, aim, bounds, limited, book, phase)
 }
@@ -379,10 +399,12 @@ fn bounds_of(
     aim: &mut Aim<'_>,
     point: &Point,
     budget: u32,
+    version: u32,
 ) -> Result<Bounds, AllocError>
     requires ready { IsReady aim.old }
     requires shown { IsShownFor aim.old point.now }
     requires begins { BeginsFor aim.old point.now budget }
+    requires version { IsSearchVersion version }
     requires crossed { is_crossed_box (problem_of aim.old.problem.now) ≡ false }
     ensures ready { IsReady aim.new }
     ensures same { IsSameAim aim.old aim.new }
@@ -398,6 +420,7 @@ fn bounds_of(
         phase: Phase::Probing,
         tried: None,
         patience: PROBE,
+        version,
     })
 }
 
@@ -423,6 +446,7 @@ fn find<F: Fn(Global, &Problem, &Options) -> Result<Book, AllocError>>(
     aim: &mut Aim<'_>,
     point: &Point,
     budget: u32,
+    version: u32,
 ) -> Result<Found, AllocError>
     requires takes { (a p o : _) → IsWithinLimits p.now o.now → F.pre searcher.now a p o }
     requires gives { (a p o r : _) → F.post searcher.now a p o r →
@@ -430,11 +454,12 @@ fn find<F: Fn(Global, &Problem, &Options) -> Result<Book, AllocError>>(
     requires ready { IsReady aim.old }
     requires shown { IsShownFor aim.old point.now }
     requires begins { BeginsFor aim.old point.now budget }
+    requires version { IsSearchVersion version }
     requires crossed { is_crossed_box (problem_of aim.old.problem.now) ≡ false }
     ensures { let a = aim.old in
         IfOk result (IsFound a.problem.now a.goal a.gap_bits a.options.now) }
 {
-    let mut bounds = bounds_of(alloc, aim, point, budget)?;
+    let mut bounds = bounds_of(alloc, aim, point, budget, version)?;
     begin_low(alloc, aim, &mut bounds)?;
     let ending = improve(searcher, alloc, aim, &mut bounds)?;
     Ok(Found {
@@ -442,13 +467,14 @@ fn find<F: Fn(Global, &Problem, &Options) -> Result<Book, AllocError>>(
         point: bounds.point,
         upper: bounds.upper,
         ending,
+        version: bounds.version,
     })
 }
 
 /// Searches for the least value of the goal, the term of atom `goal`, until the bounds are within `2^-gap_bits`, the budget
 /// of the options, which is that of all searches together, is spent, or no search helps any more. Each search but the first
 /// costs one of the budget beside what it splits. The searcher is called with a problem and options, and gives a book of
-/// them with an answer.
+/// them with an answer, in the version of the options or in version 5, in which all later searches begin then.
 pub fn minimize<F: Fn(Global, &Problem, &Options) -> Result<Book, AllocError>>(
     searcher: &F,
     alloc: Global,
@@ -470,6 +496,7 @@ pub fn minimize<F: Fn(Global, &Problem, &Options) -> Result<Book, AllocError>>(
         return Ok(Least::NoPoint(book));
     };
     let budget = options.budget - book.branches();
+    let version = book.options().version;
     let mut aim = Aim::new(alloc, problem, goal, gap_bits, options)?;
-    Ok(Least::Found(find(searcher, alloc, &mut aim, point, budget)?))
+    Ok(Least::Found(find(searcher, alloc, &mut aim, point, budget, version)?))
 }

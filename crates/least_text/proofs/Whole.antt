@@ -8,10 +8,10 @@ use Rattle.cover_model.specs.State.{Loosenings, root_state}
 use Rattle.cover_model.specs.Rules.{open_line}
 use Rattle.cover_model.specs.Fits.{IsShownAt}
 use Rattle.cover_data.specs.declared.margins.Margins.{Margins}
-use Rattle.cover_data.specs.Margins.{loosenings_of}
+use Rattle.cover_data.specs.Margins.{AreMargins, loosenings_of}
 use Rattle.cert_read.specs.CertLine.{CertLine, goal, cover, tree_word, end_word, over, rule_line}
 use Rattle.cert_model.specs.Due.{BadHeader, OverFails, Standing, left_open, version_due, next_due, root_due, end_due, nothing_due, on, faulty, given, is_crossed_box}
-use Rattle.cert_model.specs.Accepted.{next, root_line, reached, course_of_lines, loosenings_fit, most_lemmas, certificate_text}
+use Rattle.cert_model.specs.Accepted.{next, root_line, reached, course_of_lines, most_lemmas, certificate_text}
 use Rattle.cert_model.specs.Least.{Least, LeastDue, cover_due, in_cover_due, covered_due, shown_due, in_cover, is_over, searched, can_limit, tree_space, over_line, least_next, plain_due, least_due, least, goal_next, goal_ended, IsGoalAccepted}
 use Rattle.cert_model.specs.Laws.{CanBeWritten}
 use Rattle.cert_model.specs.SessionLaws.{WrittenEnd, value_of_end, standing_of_end, IsLawfulEnd}
@@ -20,7 +20,8 @@ use Rattle.cert_model.proofs.Spells.{verdict_spelled}
 use Rattle.cert_model.proofs.Writes.{cover_finishes, Finishes}
 use Rattle.cert_text.specs.Parts.{whole_point}
 use Rattle.cert_text.specs.Session.{body_lines}
-use Rattle.least_text.specs.Lines.{root_over, over_lines, limited_cover, limited_lines}
+use Rattle.cert_text.proofs.Margins.{margins_fit}
+use Rattle.least_text.specs.Lines.{least_header, root_over, over_lines, limited_cover, limited_lines}
 use Rattle.least_text.specs.Means.{open_root}
 use Rattle.least_text.proofs.Leads.{Leads, through, one_line, header_leads, goal_leads}
 use Rattle.least_text.proofs.Covered.{cover_leads}
@@ -77,31 +78,34 @@ module _ (p : Problem) (g : ℕ) (room : Bool) (b : Option ℕ) (low : Option Dy
 
 -- ---- whole texts
 
-module _ (p : Problem) (g : ℕ) (room : Bool) (b : Option ℕ) (m : Margins) where
+module _ (p : Problem) (g : ℕ) (room : Bool) (b : Option ℕ) (m : Margins) (are : AreMargins m) where
   abbrev s : Loosenings
   s = loosenings_of m
 
   text-accepted : (ls : List CertLine) (v : Least) → CanBeWritten ls → Leads p g room b (plain_due version_due) ls (least_due (shown_due s v)) [] → IsGoalAccepted p g room b (certificate_text ls) s (least v)
   text-accepted ls v can leads = verdict_spelled (goal_next p g room b) goal_ended (plain_due version_due) ls can.0 can.1 ∙ ap goal_ended (leads 0).1
 
-  pub over_accepted : (low : Option Dyadic) (x : Space) → IsTrue (loosenings_fit m.margin_bits m.delta_bits) → is_crossed_box p ≡ false → is_over p g low (root_state p).space ≡ true → IsShownAt p s x →
+  header-leads : (low : Option Dyadic) (ls : List CertLine) → Leads p g room b (plain_due version_due) (least_header s b low ++ ls) (least_due (cover_due s low None)) ls
+  header-leads low ls = header_leads p g room b s low ls (margins_fit m are) are.version_is
+
+  pub over_accepted : (low : Option Dyadic) (x : Space) → is_crossed_box p ≡ false → is_over p g low (root_state p).space ≡ true → IsShownAt p s x →
       CanBeWritten (over_lines s b low x) → IsGoalAccepted p g room b (certificate_text (over_lines s b low x)) s (least (record { lower = low; over = open_root p ∷ []; point = Some x }))
-  over_accepted low x fit h k shown can =
+  over_accepted low x h k shown can =
       let left : List Standing = open_root p ∷ [] in
       text-accepted (over_lines s b low x) (record { lower = low; over = left; point = Some x }) can
-      (through p g room b (plain_due version_due) (least_due (cover_due s low None)) _ (over_lines s b low x) (root_over ++ whole_point x) [] (header_leads p g room b m low (root_over ++ whole_point x) fit)
+      (through p g room b (plain_due version_due) (least_due (cover_due s low None)) _ (over_lines s b low x) (root_over ++ whole_point x) [] (header-leads low (root_over ++ whole_point x))
       (through p g room b (least_due (cover_due s low None)) (least_due (covered_due s low left)) _ (root_over ++ whole_point x) (whole_point x) [] (over-leads p g room b low s (whole_point x) h k)
       (point_leads p g room b low left s x shown)))
 
-  pub limited_accepted : (d : Dyadic) (k : ℕ) (q : Problem) (lemmas : List LemmaTree) (end : WrittenEnd) (x : Space) → IsTrue (loosenings_fit m.margin_bits m.delta_bits) →
+  pub limited_accepted : (d : Dyadic) (k : ℕ) (q : Problem) (lemmas : List LemmaTree) (end : WrittenEnd) (x : Space) →
       can_limit p room (Some d) k ≡ true → q ≡ searched p g (Some d) (Some k) → length lemmas ≤ most_lemmas →
       AreLemmaTrees q s [] lemmas → IsLawfulEnd q s (lemma_states lemmas) end → value_of_end s q (lemma_states lemmas) end ≡ left_open [] → IsShownAt p s x →
       CanBeWritten (limited_lines s b (Some d) k lemmas end x) →
       IsGoalAccepted p g room b (certificate_text (limited_lines s b (Some d) k lemmas end x)) s (least (record { lower = Some d; over = []; point = Some x }))
-  limited_accepted d k q lemmas end x fit can same few trees lawful none shown written =
+  limited_accepted d k q lemmas end x can same few trees lawful none shown written =
       let low : Option Dyadic = Some d in let ls : List CertLine = limited_lines s b low k lemmas end x in let ls' : List CertLine = limited_cover k lemmas end ++ whole_point x in
       text-accepted ls (record { lower = low; over = []; point = Some x }) written
-      (through p g room b (plain_due version_due) (least_due (cover_due s low None)) _ ls ls' [] (header_leads p g room b m low ls' fit)
+      (through p g room b (plain_due version_due) (least_due (cover_due s low None)) _ ls ls' [] (header-leads low ls')
       (through p g room b (least_due (cover_due s low None)) (least_due (covered_due s low [])) _ ls' (whole_point x) []
       (limit-leads p g room b low s k q lemmas end (whole_point x) can same few trees lawful none)
       (point_leads p g room b low [] s x shown)))

@@ -17,12 +17,10 @@ use Rattle.cover_book.specs.Model.{BookModel, IsOfRoot, lemma_count, problem_in,
 use Rattle.cover_book.specs.Verdict.{verdict_of}
 use Rattle.cover_book.specs.Tree.{lemma_tree, lemma_trees}
 use Rattle.cover_book.specs.Keeps.{IsBook}
-use Rattle.cover_book.proofs.Meaning.{fits_limits}
 use Rattle.cert_text.specs.Lines.{HasAppended}
 use Rattle.cert_text.specs.Parts.{whole_point}
 use Rattle.cert_text.specs.Session.{body_lines, HasAppendedBody}
 use Rattle.cert_text.proofs.Spelling.{both_appended}
-use Rattle.cert_text.proofs.Wholes.{margins_fit}
 use Rattle.least_text.specs.Lines.{least_header, root_over, over_lines, limited_cover, limited_lines}
 use Rattle.least_text.specs.Means.{open_root, IsOverCertificate, IsLimitedCertificate}
 use Rattle.least_text.proofs.Books.{end_lawful, end_leaves_nothing}
@@ -45,7 +43,7 @@ over_written o low x t0 t1 t2 text start h r point short = λ p g room m crossed
     let all : HasAppended t0 ls text = both_appended t0 t1 text (least_header s o.bound low) (root_over ++ whole_point x) h (both_appended t1 t2 text root_over (whole_point x) r point) in
     let whole : HasAppended [] ls text = subst (λ (t : List ℕ). HasAppended t ls text) start all in
     subst (λ (t : List ℕ). IsGoalAccepted p g room o.bound t s (least (record { lower = low; over = open_root p ∷ []; point = Some x }))) (sym whole.written)
-    (over_accepted p g room o.bound (margins_of o) low x (margins_fit (margins_of o) m) crossed ov shown (can-be ls text whole short))
+    (over_accepted p g room o.bound (margins_of o) m low x crossed ov shown (can-be ls text whole short))
 
 -- ---- a book of the problem with a limit
 
@@ -66,6 +64,6 @@ limited_written b w o k n d x t0 t1 t2 t3 t4 text start same count h gl c body p
     (both_appended t1 t4 text (limited_cover k (lemma_trees b) end) (whole_point x) lines point) in
     let whole : HasAppended [] ls text = subst (λ (t : List ℕ). HasAppended t ls text) start all in
     subst (λ (t : List ℕ). IsGoalAccepted p g room b.options.bound t (loosenings_in b) (least (record { lower = Some d; over = []; point = Some x }))) (sym whole.written)
-    (limited_accepted p g room b.options.bound (margins_of b.options) d k (problem_in b) (lemma_trees b) end x (fits_limits b w) can limit few
+    (limited_accepted p g room b.options.bound (margins_of b.options) w.limits.margins d k (problem_in b) (lemma_trees b) end x can limit few
     (subst (λ (ks : List State). AreLemmaTrees (problem_in b) (loosenings_in b) ks (lemma_trees b)) none w.lemmas) (end_lawful b w none rooted end body.1) (end_leaves_nothing b w none rooted unsat end body.1) shown
     (can-be ls text whole short))

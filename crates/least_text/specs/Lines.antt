@@ -1,5 +1,5 @@
 -- The lines of certificates of least values.
-use Rattle.std.specs.Prelude.{ℕ, List, [], ◌∷◌, ◌++◌, Option, length}
+use Rattle.std.specs.Prelude.{ℕ, List, [], ◌∷◌, ◌++◌, Option, cond, length, nat_eq}
 use Rattle.dyadic.specs.Rounding.{Dyadic}
 use Rattle.interval_model.specs.Space.{Space}
 use Rattle.cover_model.specs.State.{Loosenings}
@@ -9,9 +9,13 @@ use Rattle.cert_model.specs.Written.{LemmaTree}
 use Rattle.cert_text.specs.Parts.{whole_point}
 use Rattle.cert_text.specs.Session.{body_lines}
 
--- up to the lower bound of the goal; the version is that of least values, and the lines behind it are read as in version 2
+-- the version of a certificate of a least value that has the lines of this version
+abbrev pub least_version : ℕ → ℕ
+least_version v = cond (nat_eq v 2) 4 v
+
+-- up to the lower bound of the goal
 abbrev pub least_header : Loosenings → Option ℕ → Option Dyadic → List CertLine
-least_header s b low = version 4 ∷ margin s.margin_bits ∷ delta s.delta_bits ∷ bound b ∷ lower low ∷ []
+least_header s b low = version (least_version s.version) ∷ margin s.margin_bits ∷ delta s.delta_bits ∷ bound b ∷ lower low ∷ []
 
 -- a cover of no lemmas whose tree is the root, over the bound
 abbrev pub root_over : List CertLine

@@ -16,5 +16,5 @@ pub trait Subject {
 impl Subject for Brand {
     ghost problem = { record { axes = []; nodes = []; atoms = []; forms = []; root = 0 } };
 
-    ghost margins = { record { delta_bits = 1; margin_bits = 2; least_bits = 0 } };
+    ghost margins = { record { delta_bits = 1; margin_bits = 2; least_bits = 0; version = 2 } };
 }

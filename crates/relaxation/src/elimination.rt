@@ -1,6 +1,6 @@
 // Elimination over the slopes of marked equations at the centre.
 use crate::columns::values;
-use crate::relaxed::{MOST_ATOMS, Weights, asked, margin_of};
+use crate::relaxed::{Weights, asked, margin_of};
 use floats::{Adjoints, Span, at, coefficients, multiplier, set, size, span_of_domain};
 use ival::{Rows, Space};
 use poly_graph::{Kind, Lits, Mark, Problem};
@@ -40,6 +40,8 @@ pub struct Elimination {
     choices: Vec<Option<Choice>, Global>,
     // the row that is solved for each axis
     solved: Vec<Option<usize>, Global>,
+    // how many multipliers a row may have
+    most: usize,
 }
 
 // Whether atom j is an equation that is marked, and its term's enclosure does not lie where it is to.
@@ -165,11 +167,12 @@ fn copy_row(row: &[f64], line: &mut [f64]) {
 }
 
 impl Elimination {
-    /// The combinations of the marked equations: none of few of them, or of a box too large. The rows are enclosures over
-    /// the space, the others over its centre; the margin is 2 to the power of minus the bits.
+    /// The combinations of the marked equations, each of at most so many: none of few of them, or of a box too large. The
+    /// rows are enclosures over the space, the others over its centre; the margin is 2 to the power of minus the bits.
     pub fn of(
         alloc: Global,
         problem: &Problem,
+        most: usize,
         margin_bits: u32,
         lits: &Lits,
         space: &Space,
@@ -190,6 +193,7 @@ impl Elimination {
             rows,
             widths: widths(alloc, space)?,
             solved: vec![in alloc; None; axes]?,
+            most,
         };
         elimination.solve(alloc)?;
         Ok(Some(elimination))
@@ -253,7 +257,7 @@ impl Elimination {
         let axes = self.solved.len();
         if q < self.rows.len() {
             let slope = at(&self.rows[q], axis);
-            if slope != 0.0 && count_either(&self.rows[q], line, axes) <= MOST_ATOMS {
+            if slope != 0.0 && count_either(&self.rows[q], line, axes) <= self.most {
                 add_line(&mut self.rows[q], -slope, line);
                 set(&mut self.rows[q], axis, 0.0);
             }

@@ -7,8 +7,8 @@ use linear_program::{Feasibility, LinearProgram, Optimum, Side};
 use poly_graph::{Atom, Kind, Lits, Mark, Problem};
 use std::alloc::{AllocError, Global};
 
-/// At most so many atoms are combined: a line of a certificate has no more.
-pub(crate) const MOST_ATOMS: usize = 64;
+/// At most so many atoms are rows of a programme.
+const MOST_ROWS: usize = 64;
 
 /// At most so many coefficients.
 const MOST_COEFFICIENTS: usize = 1 << 16;
@@ -124,7 +124,7 @@ fn rows_of(
     let mut atoms = Vec::new(alloc);
     let mut spans = Vec::new(alloc);
     for j in 0..problem.atoms().len() {
-        if atoms.len() < MOST_ATOMS {
+        if atoms.len() < MOST_ROWS {
             if let Some(span) = asked(problem, lits, rows, margin, j) {
                 if let Ok(number) = u32::try_from(j) {
                     atoms.push(number)?;
@@ -273,7 +273,7 @@ fn relaxation_of(
     let axes = differences(alloc, boxed.space, &centre)?;
     let columns = columns_after(alloc, graph, &marks, boxed.rows, &values, axes)?;
     let count = columns.spans.len();
-    if count > MOST_COEFFICIENTS / MOST_ATOMS || !are_moderate(&columns.spans) {
+    if count > MOST_COEFFICIENTS / MOST_ROWS || !are_moderate(&columns.spans) {
         return Ok(None);
     }
     let rows = coefficient_rows(alloc, boxed.problem, &roots, &values, &columns)?;

@@ -12,6 +12,7 @@ pub const USUAL: Options = Options {
     delta_bits: 10,
     margin_bits: 20,
     least_bits: 20,
+    version: 2,
     budget: 65_536,
     workers: 1,
     bound: None,

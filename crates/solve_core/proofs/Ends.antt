@@ -1,19 +1,27 @@
 -- A search that is over.
-use Rattle.std.proofs.Common.{◌≡◌, inl, inr, ℕ, suc, ◌<◌, List, [], ◌∷◌, Bool, true, false, cond, Option, Some, None, refl, subst, arith}
+use Rattle.std.proofs.Common.{◌≡◌, inl, inr, ℕ, suc, ◌<◌, List, [], ◌∷◌, Bool, true, false, cond, Option, Some, None, refl, ap, sym, subst, arith}
 use Rattle.std.specs.Prelude.{slice_get, is_some}
 use Rattle.std.specs.List.{list_any, Contains}
 use Rattle.std.proofs.lemmas.Bool.{ltb-true}
 use Rattle.cover_model.specs.State.{State}
 use Rattle.interval_model.specs.Space.{Space}
+use Rattle.cover_data.specs.Models.{LemmaModel}
 use Rattle.cover_book.specs.declared.verdict.BookVerdict.TheVariants.{DeltaSat, UnknownBudget, NotYet, UnknownWidth, Unsat}
 use Rattle.cover_book.specs.Model.{NodeModel, live_node, crossed_node, closed_node, parted_node, stuck_node, BookModel}
 use Rattle.cover_book.specs.Verdict.{is_live, has_live, has_stuck, may_branch, verdict_of}
 use Rattle.solve_core.specs.declared.search.Search.{Search}
 use Rattle.cover_book.specs.Left.{IsLeftLive, LeavesDue}
-use Rattle.solve_core.specs.Search.{EachWaits, IsSearch, IsOver}
+use Rattle.solve_core.specs.Search.{EachWaits, IsUnderWay, IsSearch, IsOver}
 
 none-contained : (n : ℕ) → Contains [] n → ⊥
 none-contained n c = absurd (omega (arith, c.1))
+
+-- the same book, lemmas and waiting nodes
+pub same_search : (s t : Search) → t.book ≡ s.book → t.lemmas ≡ s.lemmas → t.waiting.items ≡ s.waiting.items → IsSearch s s.waiting.items → IsSearch t t.waiting.items
+same_search s t e f g h =
+    subst (λ (ns : List ℕ). IsUnderWay t.book ns t.lemmas.items) (sym g)
+    (subst (λ (b : BookModel). IsUnderWay b s.waiting.items t.lemmas.items) (sym e)
+    (subst (λ (ls : List LemmaModel). IsUnderWay s.book s.waiting.items ls) (sym (ap (λ v. v.items) f)) h))
 
 pub leaves_due : (s : Search) → IsSearch s s.waiting.items → IsOver s → LeavesDue s.book
 leaves_due s h o e n S k = elim (subst (λ (xs : List ℕ). EachWaits s.book xs) (o e) (h.waits e) n S k) [ inl c ↦ absurd (none-contained n c) | inr w ↦ w ]

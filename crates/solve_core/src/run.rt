@@ -1,19 +1,19 @@
 // The search: by many workers on one book, and then by the caller alone.
-ghost use Rattle.std.specs.Prelude.{◌≡◌, ◌≢◌, ◌<◌, ◌≤◌, ◌-◌, true, false, cond, length, All, IfOk, OnOk, []};
+ghost use Rattle.std.specs.Prelude.{◌≡◌, ◌≢◌, ◌⊎◌, ◌<◌, ◌≤◌, ◌-◌, true, false, cond, nat_le, length, map, All, IfOk, OnOk, []};
 ghost use Rattle.poly_graph.specs.ProblemViews.{problem_of};
 ghost use Rattle.problem_session.specs.Session.{problems_of};
 ghost use Rattle.cover_model.specs.Carried.{GoesOnFrom};
 ghost use Rattle.cert_model.specs.SessionLaws.{IsSession};
 ghost use Rattle.cover_book.specs.Limits.{IsWithinLimits};
-ghost use Rattle.cover_book.specs.Model.{kept_from, opening, opening_with, problem_in};
+ghost use Rattle.cover_data.specs.Margins.{AreMargins, margins_of, options_in};
+ghost use Rattle.cover_book.specs.Model.{kept_from, opening, opening_with, problem_in, raised};
 ghost use Rattle.cover_book.specs.Keeps.{IsBook};
-ghost use Rattle.cover_book.specs.Session.{AreBooksOf};
 ghost use Rattle.cover_book.specs.Verdict.{verdict_of};
 ghost use Rattle.cover_book.specs.declared.verdict.BookVerdict.TheVariants as verdict;
-ghost use Rattle.solve_core.specs.Reaches.{Reaches};
+ghost use Rattle.solve_core.specs.Reaches.{Reaches, IsSearched};
 ghost use Rattle.cover_book.specs.Left.{LeavesDue};
 ghost use Rattle.solve_core.specs.Search.{IsSearch, work_left};
-ghost use Rattle.solve_core.specs.Solved.{IsSolved, IsCheckWithin, IsProblemAt, IsNextBook};
+ghost use Rattle.solve_core.specs.Solved.{IsInVersionOf, IsSolved, IsCheckWithin, IsProblemAt, IsOpeningAt, AreAppended, AreBooksInOneVersion};
 
 use crate::gate::Gate;
 use crate::search::Search;
@@ -21,7 +21,7 @@ use crate::team::search_together;
 use box_worker::Room;
 use cover_book::{Book, BookVerdict};
 use cover_data::Options;
-use poly_graph::Problem;
+use poly_graph::{Declared, Problem};
 use problem_session::Session;
 use std::alloc::{AllocError, Global};
 use std::marker::Brand;
@@ -34,6 +34,29 @@ const MOST_WORKERS: u32 = 64;
 // Threads start when so many boxes wait.
 const ENOUGH: usize = 2;
 
+// A search that may go over to the latest version does so once it has made more branches than these.
+const FIRST_BRANCHES: u32 = 64;
+
+// The latest version of the format.
+const LATEST: u32 = 5;
+
+// Until when the caller works alone.
+#[derive(Clone, Copy)]
+enum Until {
+    // so many boxes wait
+    Waiting(usize),
+    // there are more branches
+    Beyond(u32),
+}
+
+// Whether it is time.
+fn is_time(until: Until, search: &Search) -> bool {
+    match until {
+        Until::Waiting(enough) => search.waiting.len() >= enough,
+        Until::Beyond(first) => search.book.branches() > first,
+    }
+}
+
 // Works on the next node, if there is one and no point is kept. Whether it did.
 fn work_once<G: Gate>(
     alloc: Global,
@@ -43,8 +66,7 @@ fn work_once<G: Gate>(
 ) -> Result<bool, AllocError>
     requires search { IsSearch search.old search.old.waiting.items }
     requires room { room.old ≡ search.old.book.problem }
-    ensures search { IfOk result (λ b. b ≡ true →
-        IsSearch search.new search.new.waiting.items) }
+    ensures search { OnOk result (IsSearch search.new search.new.waiting.items) }
     ensures less { IfOk result (λ b. b ≡ true → work_left search.new < work_left search.old) }
     ensures over { IfOk result (λ b. b ≡ false → LeavesDue search.new.book) }
     ensures reached { Reaches search.old.book search.new.book }
@@ -60,40 +82,41 @@ fn work_once<G: Gate>(
     Ok(true)
 }
 
-// As `work_once`, unless so many nodes wait as are enough for threads.
-fn work_if_few<G: Gate>(
+// As `work_once`, unless it is time.
+fn work_until<G: Gate>(
     alloc: Global,
     search: &mut Search,
     room: &mut Room,
+    until: Until,
     gate: &G,
 ) -> Result<bool, AllocError>
     requires search { IsSearch search.old search.old.waiting.items }
     requires room { room.old ≡ search.old.book.problem }
-    ensures search { IfOk result (λ b. b ≡ true →
-        IsSearch search.new search.new.waiting.items) }
+    ensures search { OnOk result (IsSearch search.new search.new.waiting.items) }
     ensures less { IfOk result (λ b. b ≡ true → work_left search.new < work_left search.old) }
     ensures reached { Reaches search.old.book search.new.book }
     ensures room { room.new ≡ room.old }
 {
-    if search.waiting.len() < ENOUGH {
-        work_once(alloc, search, room, gate)
-    } else {
-        Ok(false)
+    if is_time(until, search) {
+        return Ok(false);
     }
+    work_once(alloc, search, room, gate)
 }
 
-// Works on node after node until so many wait as are enough for threads, a point is kept or none is left.
+// Works on node after node until it is time, a point is kept or none is left.
 fn work_to_start<G: Gate>(
     alloc: Global,
     search: &mut Search,
     room: &mut Room,
+    until: Until,
     gate: &G,
 ) -> Result<(), AllocError>
     requires search { IsSearch search.old search.old.waiting.items }
     requires room { room.old ≡ search.old.book.problem }
-    ensures { Reaches search.old.book search.new.book }
+    ensures search { OnOk result (IsSearch search.new search.new.waiting.items) }
+    ensures reached { Reaches search.old.book search.new.book }
 {
-    while work_if_few(alloc, search, room, gate)? {}
+    while work_until(alloc, search, room, until, gate)? {}
     Ok(())
 }
 
@@ -118,14 +141,16 @@ fn start_work<G: Gate>(
     alloc: Global,
     search: &mut Search,
     problem: &Problem,
+    until: Until,
     gate: &G,
 ) -> Result<(), AllocError>
     requires search { IsSearch search.old search.old.waiting.items }
     requires problem { search.old.book.problem ≡ problem.now }
-    ensures { Reaches search.old.book search.new.book }
+    ensures search { OnOk result (IsSearch search.new search.new.waiting.items) }
+    ensures reached { Reaches search.old.book search.new.book }
 {
     let mut room = Room::new(problem);
-    let done = work_to_start(alloc, search, &mut room, gate);
+    let done = work_to_start(alloc, search, &mut room, until, gate);
     drop(room);
     done
 }
@@ -148,6 +173,26 @@ fn finish_work<G: Gate>(
     done
 }
 
+// As `start_work` until the book has more than the first branches, and else as `finish_work`. Whether that is done.
+fn work_at_first<G: Gate>(
+    alloc: Global,
+    search: &mut Search,
+    problem: &Problem,
+    gate: &G,
+) -> Result<bool, AllocError>
+    requires search { IsSearch search.old search.old.waiting.items }
+    requires problem { search.old.book.problem ≡ problem.now }
+    ensures reached { Reaches search.old.book search.new.book }
+    ensures left { IfOk result (λ done. done ≡ true → LeavesDue search.new.book) }
+{
+    start_work(alloc, search, problem, Until::Beyond(FIRST_BRANCHES), gate)?;
+    if search.book.branches() > FIRST_BRANCHES {
+        return Ok(false);
+    }
+    finish_work(alloc, search, problem, gate)?;
+    Ok(true)
+}
+
 // Works alone at first: a problem of few boxes is done before threads start.
 fn start<G: Gate>(
     alloc: Global,
@@ -161,7 +206,7 @@ fn start<G: Gate>(
     ensures options { IfOk result (λ b. b.options ≡ book.options) }
 {
     let mut search = Search::resume(alloc, book)?;
-    start_work(alloc, &mut search, problem, gate)?;
+    start_work(alloc, &mut search, problem, Until::Waiting(ENOUGH), gate)?;
     Ok(search.into_book())
 }
 
@@ -214,29 +259,95 @@ fn search_from<R: Threads + Wait + Sync, G: Gate + Sync>(
     finish(alloc, book, problem, gate)
 }
 
-/// Searches on from a book as it stands, by its own options, as `solve` does from the opening book.
+// Whether there is a choice of the axis that is cut: two axes or more are Real ones.
+fn has_choice_of_axis(problem: &Problem) -> bool {
+    let mut is_one = false;
+    for axis in problem.axes() {
+        if matches!(axis.declared, Declared::Real(_, _)) {
+            if is_one {
+                return true;
+            }
+            is_one = true;
+        }
+    }
+    false
+}
+
+// Whether the search on the book may go over to version 5, and there is something to be chosen then.
+fn may_go_over(book: &Book, problem: &Problem, options: &Options) -> bool
+    ensures { result ≡ true → 5 ≤ options.now.version }
+{
+    book.options().version < 5 && options.version >= 5 && has_choice_of_axis(problem)
+}
+
+// The same book in version 5.
+fn raised(book: Book) -> Book
+    ensures { result ≡ raised book }
+{
+    let mut later = book;
+    later.raise();
+    later
+}
+
+// Searches on from a book of the problem. Where it is of version 2, the options are of version 5 and there is a choice of
+// axes, the caller works alone at first, and the search goes over to version 5 once the book has more branches.
+fn search_in_versions<R: Threads + Wait + Sync, G: Gate + Sync>(
+    rt: &R,
+    alloc: Global,
+    book: Book,
+    problem: &Problem,
+    options: &Options,
+    gate: &G,
+) -> Result<Book, AllocError>
+    requires problem { book.problem ≡ problem.now }
+    requires options { book.options ≡ options_in book.options.version options.now }
+    requires margins { AreMargins (margins_of options.now) }
+    ensures searched { IfOk result (IsSearched book) }
+    ensures options { IfOk result (IsInVersionOf options.now book.options.version) }
+    ensures verdict { IfOk result (λ b. verdict_of b ≢ verdict.NotYet) }
+    ensures left { IfOk result (λ b. LeavesDue b) }
+    ensures book { IfOk result (λ b. IsBook b) }
+{
+    if !may_go_over(&book, problem, options) {
+        let own = *book.options();
+        return search_from(rt, alloc, book, problem, &own, gate);
+    }
+    let mut search = Search::resume(alloc, book)?;
+    let is_done = work_at_first(alloc, &mut search, problem, gate)?;
+    let begun = search.into_book();
+    if is_done {
+        return Ok(begun);
+    }
+    search_from(rt, alloc, raised(begun), problem, options, gate)
+}
+
+/// Searches on from a book as it stands, by its own options but for the version: where the book is of version 2 and more
+/// than one axis is a Real one, the caller works alone at first, and once the book has more than 64 branches, the search
+/// goes on in version 5.
 pub fn search_on<R: Threads + Wait + Sync, G: Gate + Sync>(
     rt: &R,
     alloc: Global,
     book: Book,
     gate: &G,
 ) -> Result<Book, AllocError>
-    // The book stays one of the same problem, options, first lemmas and first state, and calls on it lead to what is
-    // answered.
+    // The book is one of the same problem, options, first lemmas and first state, in its version or in version 5, and
+    // calls on it lead to what is answered, or to a book that goes over to version 5 and leads to it.
     ensures problem { IfOk result (λ b. b.problem ≡ book.problem) }
-    ensures options { IfOk result (λ b. b.options ≡ book.options) }
+    ensures options { IfOk result (λ b. b.options ≡ options_in b.options.version book.options) }
+    ensures version { let v = book.options.version in
+        IfOk result (λ b. (b.options.version ≡ v) ⊎ (b.options.version ≡ 5)) }
     ensures kept { IfOk result (λ b. b.kept ≡ book.kept) }
     ensures root { IfOk result (λ b. b.root ≡ book.root) }
     ensures book { IfOk result (λ b. IsBook b) }
-    ensures reached { IfOk result (λ b. Reaches book b) }
+    ensures searched { IfOk result (IsSearched book) }
 
     // It has an answer.
     ensures verdict { IfOk result (λ b. verdict_of b ≢ verdict.NotYet) }
     ensures left { IfOk result (λ b. LeavesDue b) }
 {
     let problem = book.problem().try_clone(alloc)?;
-    let options = *book.options();
-    search_from(rt, alloc, book, &problem, &options, gate)
+    let options = book.options().in_version(LATEST);
+    search_in_versions(rt, alloc, book, &problem, &options, gate)
 }
 
 /// Searches for a point of the problem, or for a cover of its declared box, from the opening book on. Where the options
@@ -244,6 +355,9 @@ pub fn search_on<R: Threads + Wait + Sync, G: Gate + Sync>(
 /// two boxes. Then the caller goes on alone from what they leave, until a point is kept, no node is live, or the budget
 /// is used up and nothing but a branch is left to be done at each live node. With one worker the caller does all of it.
 /// The gate is called before and after the work on each node.
+///
+/// The search begins in version 2 of the format. Where the options are of version 5 and more than one axis is a Real one,
+/// the caller works alone at first, and once the book has more than 64 branches, the search goes on in version 5.
 pub fn solve<R: Threads + Wait + Sync, G: Gate + Sync>(
     rt: &R,
     alloc: Global,
@@ -252,19 +366,20 @@ pub fn solve<R: Threads + Wait + Sync, G: Gate + Sync>(
     gate: &G,
 ) -> Result<Book, AllocError>
     requires { IsWithinLimits problem.now options.now }
-    // The book is one of this problem and these options, and calls on the opening book lead to it.
+    // The book is one of this problem and these options, in version 2 or that of the options, and calls on the opening
+    // book lead to it, or to one that goes over to version 5 and leads to it.
     ensures problem { IfOk result (λ b. b.problem ≡ problem.now) }
-    ensures options { IfOk result (λ b. b.options ≡ options.now) }
+    ensures options { IfOk result (IsInVersionOf options.now 2) }
     ensures book { IfOk result (λ b. IsBook b) }
-    ensures reached { IfOk result (λ b. Reaches (opening problem.now options.now) b) }
+    ensures searched { IfOk result (IsSearched (opening problem.now (options_in 2 options.now))) }
 
     // It has an answer.
     ensures verdict { IfOk result (λ b. verdict_of b ≢ verdict.NotYet) }
     ensures left { IfOk result (λ b. LeavesDue b) }
 {
     let copy = problem.try_clone(alloc)?;
-    let book = Book::new(alloc, copy, *options)?;
-    search_from(rt, alloc, book, problem, options, gate)
+    let book = Book::new(alloc, copy, options.in_version(2))?;
+    search_in_versions(rt, alloc, book, problem, options, gate)
 }
 
 // The book that opens the search at the check behind that of the old book, whose problem this is: with the lemmas of
@@ -282,26 +397,46 @@ fn opened(alloc: Global, old: &Book, problem: Problem, goes_on: bool) -> Result<
     }
 }
 
-// Searches at the check of this number, where the old book is of the check before.
-fn solve_next<R: Threads + Wait + Sync, G: Gate + Sync>(
-    rt: &R,
+// The problem of the check of this number, and the book that opens the search at it, where the old book is of the check
+// before.
+fn open_next(
     alloc: Global,
     session: &Session,
     k: usize,
     old: &Book,
-    gate: &G,
-) -> Result<Book, AllocError>
+) -> Result<(Problem, Book), AllocError>
     requires session { IsSession (problems_of session.now) }
     requires limits { All (IsCheckWithin old.now.options) session.now }
     requires first { 1 ≤ k }
     requires within { k < length session.now }
     requires old { IsProblemAt session.now (k - 1) old.now.problem }
-    ensures { IfOk result (IsNextBook session.now (k - 1) old.now) }
+    ensures { IfOk result (λ x. IsOpeningAt session.now (k - 1) old.now x.0 x.1) }
 {
     let problem = session.next(alloc, k - 1, old.problem())?;
     let copy = problem.try_clone(alloc)?;
     let book = opened(alloc, old, copy, session.extends(k))?;
-    search_from(rt, alloc, book, &problem, old.options(), gate)
+    Ok((problem, book))
+}
+
+// Searches at the check of this number, where the old book is of the check before: in the version of that at first.
+fn solve_next<R: Threads + Wait + Sync, G: Gate + Sync>(
+    rt: &R,
+    alloc: Global,
+    options: &Options,
+    opened: (Problem, Book),
+    gate: &G,
+) -> Result<Book, AllocError>
+    requires problem { opened.1.problem ≡ opened.0 }
+    requires options { opened.1.options ≡ options_in opened.1.options.version options.now }
+    requires margins { AreMargins (margins_of options.now) }
+    ensures searched { IfOk result (IsSearched opened.1) }
+    ensures options { IfOk result (IsInVersionOf options.now opened.1.options.version) }
+    ensures verdict { IfOk result (λ b. verdict_of b ≢ verdict.NotYet) }
+    ensures left { IfOk result (λ b. LeavesDue b) }
+    ensures book { IfOk result (λ b. IsBook b) }
+{
+    let (problem, book) = opened;
+    search_in_versions(rt, alloc, book, &problem, options, gate)
 }
 
 // Searches at the first check.
@@ -315,13 +450,34 @@ fn solve_first<R: Threads + Wait + Sync, G: Gate + Sync>(
     requires session { IsSession (problems_of session.now) }
     requires limits { All (IsCheckWithin options.now) session.now }
     ensures at { IfOk result (λ b. IsProblemAt session.now 0 b.problem) }
-    ensures options { IfOk result (λ b. b.options ≡ options.now) }
+    ensures options { IfOk result (IsInVersionOf options.now 2) }
     ensures kept { IfOk result (λ b. b.kept ≡ []) }
     ensures book { IfOk result (λ b. IsBook b) }
     ensures solved { IfOk result (λ b. IsSolved b) }
 {
     let problem = session.first(alloc)?;
     solve(rt, alloc, &problem, options, gate)
+}
+
+// The books go over to version 5, where this is one.
+fn raise_to(version: u32, books: &mut [Book])
+    ensures { books.new ≡ cond (nat_le 5 version) (map raised books.old) books.old }
+{
+    if version < 5 {
+        return;
+    }
+    for book in books.iter_mut() {
+        book.raise();
+    }
+}
+
+// Appends a book, once the others are of its version.
+fn append(books: &mut Vec<Book>, book: Book) -> Result<(), AllocError>
+    ensures { OnOk result (AreAppended books.old.items book books.new.items) }
+{
+    raise_to(book.options().version, books.as_mut_slice());
+    books.push(book)?;
+    Ok(())
 }
 
 // Searches at each check, and appends the books.
@@ -336,20 +492,22 @@ fn solve_each<R: Threads + Wait + Sync, G: Gate + Sync>(
     requires session { IsSession (problems_of session.now) }
     requires limits { All (IsCheckWithin options.now) session.now }
     requires none { books.old.items ≡ [] }
-    ensures books { OnOk result (AreBooksOf options.now [] session.now books.new.items) }
+    ensures books { OnOk result (AreBooksInOneVersion options.now session.now books.new.items) }
     ensures solved { OnOk result (All IsSolved books.new.items) }
 {
     let book = solve_first(rt, alloc, session, options, gate)?;
     books.push(book)?;
     for k in 1..session.len() {
-        let book = solve_next(rt, alloc, session, k, &books[k - 1], gate)?;
-        books.push(book)?;
+        let opened = open_next(alloc, session, k, &books[k - 1])?;
+        let book = solve_next(rt, alloc, options, opened, gate)?;
+        append(books, book)?;
     }
     Ok(())
 }
 
 /// Searches at each check of a script, in order, as `solve` does. Where all commands of the check before are in force, the
-/// search begins with the lemmas of the book before.
+/// search begins with the lemmas of the book before. Each search begins in the version of the one before; in the end all
+/// books are of the version of the last one.
 pub fn solve_all<R: Threads + Wait + Sync, G: Gate + Sync>(
     rt: &R,
     alloc: Global,
@@ -359,8 +517,9 @@ pub fn solve_all<R: Threads + Wait + Sync, G: Gate + Sync>(
 ) -> Result<Vec<Book>, AllocError>
     requires session { IsSession (problems_of session.now) }
     requires limits { All (IsCheckWithin options.now) session.now }
-    // The books are those of the checks, each with the lemmas that it may keep of the one before.
-    ensures books { IfOk result (λ v. AreBooksOf options.now [] session.now v.items) }
+    // The books are those of the checks, each with the lemmas that it may keep of the one before, in version 2 or that of
+    // the options.
+    ensures books { IfOk result (λ v. AreBooksInOneVersion options.now session.now v.items) }
 
     // Calls on each as it opened lead to it, and it has an answer.
     ensures solved { IfOk result (λ v. All IsSolved v.items) }

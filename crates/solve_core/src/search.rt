@@ -93,6 +93,7 @@ impl Search {
         ensures book { self.new.book ≡ self.old.book }
         ensures lemmas { self.new.lemmas ≡ self.old.lemmas }
         ensures none { IsNone result → IsOver self.old }
+        ensures same { IsNone result → self.new.waiting.items ≡ self.old.waiting.items }
         ensures taken { IfSome result (λ n.
             self.old.waiting.items ≡ self.new.waiting.items ++ (n ∷ [])) }
         ensures no_point { IfSome result (λ n. self.old.book.point ≡ None) }

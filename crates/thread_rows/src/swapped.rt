@@ -100,7 +100,7 @@ pub(crate) fn is_kept_at(
 
 // ---- patches
 
-// Marks so many atoms in the state that the patch has reached, and then cuts it; whether it did.
+// Marks so many atoms in the state that the patch has reached, and then cuts its widest axis; whether it did.
 fn ends_in_cut(problem: &Problem, patch: &mut Patch, atoms: u32) -> bool
     requires { patch.old.problem ≡ problem.now }
     ensures problem { patch.new.problem ≡ patch.old.problem }
@@ -112,7 +112,10 @@ fn ends_in_cut(problem: &Problem, patch: &mut Patch, atoms: u32) -> bool
             return false;
         }
     }
-    patch.cut().is_ok()
+    match patch.widest() {
+        Some(axis) => patch.cut(axis).is_ok(),
+        None => false,
+    }
 }
 
 // The patch that marks so many atoms in the state and then cuts it.

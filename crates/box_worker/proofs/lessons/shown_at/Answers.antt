@@ -7,7 +7,6 @@ use Rattle.poly_graph.specs.ProblemViews.{Parts}
 use Rattle.box_worker.specs.Attempts.{IsOpen}
 use Rattle.box_worker.specs.Worked.{margins_of}
 use Rattle.box_worker.proofs.Repeated.{is_shown}
-use Rattle.box_worker.proofs.Works.{margins_are}
 use Rattle.box_worker.proofs.lessons.shown_at.Goals as goal
 
 pub returns-in-Ok-clause-shown : goal.returns-in-Ok-clause-shown
@@ -15,7 +14,7 @@ returns-in-Ok-clause-shown c =
     let q = c.args.room.now in let m = margins_of c.args.options.now in let S = c.args.state in
     let r = c.in_ok-repeat.ensures in let P = r.0 in let Q = c.repeat.new.patch in
     let n = c.margins-margins.result in
-    let e : n ≡ m = margins_are n c.args.options.now c.margins-margins.ensures.delta c.margins-margins.ensures.margin c.margins-margins.ensures.least in
+    let e : n ≡ m = c.margins-margins.ensures in
     let B = c.in_ok-patch.patch in let b = c.in_ok-patch.ensures in
     let first : B.kept.first ≡ S = ap (λ (k : KeptModel). k.first) b.kept in
     let opened : IsOpen q m [] S P =

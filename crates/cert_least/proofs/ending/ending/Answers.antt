@@ -2,8 +2,8 @@ use Rattle.std.proofs.Common.{◌+◌, Err}
 use Rattle.cert_check.specs.declared.fault.CertFault.TheVariants.{BadHeader}
 use Rattle.cert_least.specs.declared.phase.Phase.TheVariants as phase
 use Rattle.cert_least.specs.Judging.{aim_of}
-use Rattle.cert_least.specs.Phases.{told_of, lower_of}
-use Rattle.cert_least.proofs.Endings.{ends_in, header_ends, cover_missing, stopped_ends}
+use Rattle.cert_least.specs.Phases.{told_of, tells_later, lower_of}
+use Rattle.cert_least.proofs.Endings.{ends_in, header_ends, lower_ends, cover_missing, stopped_ends}
 use Rattle.cert_least.proofs.ending.ending.Goals as goal
 
 pub returns-in-Version-clause-ending : goal.returns-in-Version-clause-ending
@@ -19,12 +19,14 @@ returns-in-Plain-clause-ending c =
 pub returns-in-Header-clause-ending : goal.returns-in-Header-clause-ending
 returns-in-Header-clause-ending c =
     let a = c.args.aim.now in
-    ends_in (aim_of a) c.args.lines c.args.phase (phase.Header c.in-Header.field-0) c.args.checker.now (Err (BadHeader (c.args.lines + 1))) c.in-Header.is c.requires.sound (λ h. h) (λ at. header_ends (aim_of a) c.args.lines at.due)
+    ends_in (aim_of a) c.args.lines c.args.phase (phase.Header c.in-Header.field-0) c.args.checker.now (Err (BadHeader (c.args.lines + 1))) c.in-Header.is c.requires.sound (λ h. h)
+    (λ at. header_ends (aim_of a) c.args.lines (told_of c.in-Header.field-0) (tells_later c.in-Header.field-0) at.due at.fits)
 
 pub returns-in-Lower-clause-ending : goal.returns-in-Lower-clause-ending
 returns-in-Lower-clause-ending c =
     let a = c.args.aim.now in
-    ends_in (aim_of a) c.args.lines c.args.phase (phase.Lower c.in-Lower.field-0) c.args.checker.now (Err (BadHeader (c.args.lines + 1))) c.in-Lower.is c.requires.sound (λ h. h) (λ at. header_ends (aim_of a) c.args.lines at.due)
+    ends_in (aim_of a) c.args.lines c.args.phase (phase.Lower c.in-Lower.field-0) c.args.checker.now (Err (BadHeader (c.args.lines + 1))) c.in-Lower.is c.requires.sound (λ h. h)
+    (λ at. lower_ends (aim_of a) c.args.lines (told_of c.in-Lower.field-0) (tells_later c.in-Lower.field-0) at.due at.fits)
 
 pub returns-in-Cover-clause-ending : goal.returns-in-Cover-clause-ending
 returns-in-Cover-clause-ending c =

@@ -24,7 +24,7 @@ returns-in-Header-clause-next c =
 pub returns-in-Lower-clause-next : goal.returns-in-Lower-clause-next
 returns-in-Lower-clause-next c =
     let a = c.args.aim.now in
-    subst (λ (x : Phase). IsAimNext a x c.args.checker.now (line_of c.args.line.now) c.args.checker.now c.lower_line.result) (sym c.in-Lower.is) (c.lower_line.ensures (aim_of a))
+    subst (λ (x : Phase). IsAimNext a x c.args.checker.now (line_of c.args.line.now) c.lower_line.new.checker c.lower_line.result) (sym c.in-Lower.is) (c.lower_line.ensures (aim_of a))
 
 pub returns-in-Cover-clause-next : goal.returns-in-Cover-clause-next
 returns-in-Cover-clause-next c =

@@ -1,4 +1,5 @@
-use Rattle.std.proofs.Common.{refl, arith}
+use Rattle.std.proofs.Common.{refl, ap, arith}
+use Rattle.cover_data.specs.declared.margins.Options.{Options}
 use Rattle.cert_resume.proofs.Matches.{none_of}
 use Rattle.cert_resume.proofs.going.note_book.Goals as goal
 
@@ -16,6 +17,7 @@ returns c =
       is_tree = f.2;
       main = f.3;
       learned = c.in_ok-append_lemmas_of.ensures;
+      version = ap (λ (o : Options). o.version) c.options.ensures.options;
       budget = omega (arith, c.branches-branches.ensures.branches, c.requires.budget);
       own = c.in_ok-note_own.ensures f.0 f.1 f.2;
       others = refl;

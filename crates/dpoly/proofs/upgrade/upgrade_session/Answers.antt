@@ -1,8 +1,7 @@
-use Rattle.std.proofs.Common.{◌∙◌, ℕ, List, [], ◌∷◌, Some, Err, length, sym, subst}
-use Rattle.std.proofs.lemmas.List.{length-map}
+use Rattle.std.proofs.Common.{ℕ, List, [], ◌∷◌, Some, Err, subst}
 use Rattle.desk.specs.declared.desk.Port.TheVariants.{CertIn}
 use Rattle.command_line.specs.Words.{upgrade}
-use Rattle.problem_session.specs.Session.{checked_of, problems_of}
+use Rattle.problem_session.specs.Session.{problems_of}
 use Rattle.check_run.specs.declared.check.Unconfirmed.{Unconfirmed}
 use Rattle.check_run.specs.Course.{RunEnds}
 use Rattle.dpoly.specs.Upgrade.{IsKeptFor, IsReadAsKept, IsUpgradeOf}
@@ -15,7 +14,7 @@ pub returns-in-Ok-read_kept-clause-ends : goal.returns-in-Ok-read_kept-clause-en
 returns-in-Ok-read_kept-clause-ends g c =
     upgraded_ends (problems_of c.args.session.now) c.args.bound c.args.cert.now c.args.out.now c.in-Ok-read_kept.kept.items _ _ _ _ _
     c.in-Ok.ensures.ok c.in-Ok-read_kept.ensures.leaves.0 c.in-Ok-read_kept.ensures.told
-    (subst (λ (bs : List ℕ). RunEnds (IsUpgradeOf (length (problems_of c.args.session.now)) c.args.out.now bs) [] (g.D.Desk.sight c.read_kept.new.desk) (g.D.Desk.sight c.write_upgraded.new.desk) c.write_upgraded.result) c.deref.ensures.value (subst (λ (n : ℕ). RunEnds (IsUpgradeOf n c.args.out.now c.deref.result.now) [] (g.D.Desk.sight c.read_kept.new.desk) (g.D.Desk.sight c.write_upgraded.new.desk) c.write_upgraded.result) (c.len.ensures ∙ sym (length-map c.args.session.now checked_of)) c.write_upgraded.ensures.ends))
+    (subst (λ (bs : List ℕ). RunEnds (IsUpgradeOf c.args.out.now bs) [] (g.D.Desk.sight c.read_kept.new.desk) (g.D.Desk.sight c.write_upgraded.new.desk) c.write_upgraded.result) c.deref.ensures.value c.write_upgraded.ensures.ends)
 
 pub returns-in-Ok-read_kept-clause-cause : goal.returns-in-Ok-read_kept-clause-cause
 returns-in-Ok-read_kept-clause-cause g c words =

@@ -1,8 +1,8 @@
 use Rattle.std.proofs.Common.{ℕ, ◌+◌, ◌<◌, length, sym, subst, refl, arith}
 use Rattle.cert_resume.specs.Request.{share_of}
 use Rattle.cert_resume.specs.declared.going.Going.{Going}
-use Rattle.cert_resume.proofs.Matches.{none_of}
-use Rattle.cert_resume.proofs.Walked.{Walked, none_walked, line_walked, state_walked, all_walked, place_within, state_within, few_others}
+use Rattle.cert_resume.proofs.Matches.{none_of, some_of}
+use Rattle.cert_resume.proofs.Walked.{Walked, none_walked, line_walked, point_walked, state_walked, all_walked, place_within, state_within, few_others, walked_searchable}
 use Rattle.dpoly.proofs.walk.walk.Goals as goal
 use Rattle.dpoly.proofs.walk.walk.Goals.{then-is_leaving+in_ok-point+in-None, else-is_leaving+in_ok-append_rule}
 
@@ -14,6 +14,9 @@ bounds-left-place g c = place_within c.args.task.now.problem.now c.args.task.now
 
 pub offset_bounds-left-place : goal.offset_bounds-left-place
 offset_bounds-left-place g c = let k : c.loop-rule.place < length c.args.left.now = place_within c.args.task.now.problem.now c.args.task.now.options (share_of c.args.task.now.share) c.args.going.now.lemmas.items c.args.main.now c.args.left.now c.requires.can c.loop-rule.rule-index c.loop-rule.place c.loop-rule.going c.rule-item.result (c.loop-rule.invariant c.requires.can) (omega (arith, c.loop-rule-test.true)) c.rule-item.is (sym c.if-is_leaving.ensures) in omega (arith, k)
+
+pub pass_leaf-requires-clause-searchable : goal.pass_leaf-requires-clause-searchable
+pass_leaf-requires-clause-searchable g c = λ κs lives. walked_searchable c.args.task.now.problem.now c.args.task.now.options (share_of c.args.task.now.share) c.args.going.now.lemmas.items c.args.main.now c.args.left.now c.requires.can c.loop-rule.rule-index c.loop-rule.place c.loop-rule.going (c.loop-rule.invariant c.requires.can)
 
 pub pass_leaf-requires-clause-may : goal.pass_leaf-requires-clause-may
 pass_leaf-requires-clause-may g c = λ κs lives. (c.loop-rule.invariant c.requires.can).gone.may
@@ -46,3 +49,7 @@ loop-rule-preserved g c = λ can. elim c.if-is_leaving.branch [
 pub returns : goal.returns
 returns g c = all_walked c.args.task.now.problem.now c.args.task.now.options (share_of c.args.task.now.share) c.args.going.now.lemmas.items c.args.main.now c.args.left.now c.requires.can c.loop-rule.rule-index c.loop-rule.place c.loop-rule.going
     (c.loop-rule.invariant c.requires.can) (omega (arith, c.loop-rule-test.false))
+
+pub returns-in-Some : goal.returns-in-Some
+returns-in-Some g c =
+    point_walked c.args.task.now.problem.now c.args.task.now.options (share_of c.args.task.now.share) c.args.going.now.lemmas.items c.args.main.now c.args.left.now c.requires.can c.loop-rule.rule-index c.loop-rule.place c.loop-rule.going c.pass_leaf.new.going c.in-Some.point (c.loop-rule.invariant c.requires.can) (some_of _ _ _ c.in-Some.point c.in-Some.is c.in_ok-point.ensures)

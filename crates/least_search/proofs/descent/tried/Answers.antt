@@ -2,12 +2,11 @@ use Rattle.std.proofs.Common.{sym, ◌∙◌, subst, IsTrue}
 use Rattle.interval_model.specs.Space.{Space, space_within}
 use Rattle.ival.specs.SpaceViews.{space_of}
 use Rattle.cover_data.specs.Margins.{AreMargins}
-use Rattle.least_search.proofs.Shown.{margins_are}
 use Rattle.least_search.proofs.descent.tried.Goals as goal
 
 pub of_middle-requires-clause-margins : goal.of_middle-requires-clause-margins
 of_middle-requires-clause-margins c =
-    subst AreMargins (sym (margins_are c.margins-margins.result c.args.aim.now.options.now c.margins-margins.ensures.delta c.margins-margins.ensures.margin c.margins-margins.ensures.least)) c.requires.ready.limits.margins
+    subst AreMargins (sym c.margins-margins.ensures) c.requires.ready.limits.margins
 
 pub of_middle-requires-clause-space : goal.of_middle-requires-clause-space
 of_middle-requires-clause-space c =

@@ -12,5 +12,5 @@ returns-clause-bounds c =
     let a = c.args.aim.now in let s = c.root_bound.ensures.same in let x : Space = c.in_ok-try_clone.field-0 in
     first_bounds a _ c.in_ok-root_bound.field-0 refl c.in_ok-root_bound.ensures.bound c.requires.crossed (subst (IsShownFor a) (sym c.in_ok-try_clone.ensures) c.requires.shown)
     (c.upper-upper.ensures.upper ∙ ap₂ (λ (p : Bor Parts) (g : ℕ). upper_at (problem_of p.now) g (space_of c.space.result.now)) s.problem s.goal
-    ∙ ap (upper_at (problem_of a.problem.now) a.goal) (c.space.ensures ∙ sym c.in_ok-try_clone.ensures)) refl
+    ∙ ap (upper_at (problem_of a.problem.now) a.goal) (c.space.ensures ∙ sym c.in_ok-try_clone.ensures)) refl c.requires.version
     (subst (λ (y : Space). BeginsFor a y c.args.budget) (sym c.in_ok-try_clone.ensures) c.requires.begins)

@@ -2,13 +2,14 @@
 use Rattle.std.proofs.Common.{◌≡◌, [], sym, subst, refl}
 use Rattle.poly_graph.specs.ProblemViews.{Parts}
 use Rattle.cover_data.specs.declared.margins.Options.{Options}
+use Rattle.cover_data.specs.Margins.{options_in}
 use Rattle.cover_book.specs.Model.{BookModel, opening}
 use Rattle.cover_book.specs.Verdict.{verdict_of}
 use Rattle.cover_book.specs.declared.verdict.BookVerdict.TheVariants as verdict
 use Rattle.cover_book.specs.Left.{LeavesDue}
-use Rattle.solve_core.specs.Reaches.{Reaches}
+use Rattle.solve_core.specs.Reaches.{IsSearched}
 use Rattle.solve_core.specs.Solved.{IsSolved, IsProblemAt}
-use Rattle.solve_core.proofs.Reached.{reaches_same}
+use Rattle.solve_core.proofs.Reached.{searched_same}
 use Rattle.solve_core.proofs.Sessions.{first_at, within_at, solved_from, ok_by}
 use Rattle.solve_core.proofs.Together.{each_ok}
 use Rattle.solve_core.proofs.run.solve_first.Goals as goal
@@ -25,10 +26,10 @@ returns-clause-at g c =
 pub returns-clause-kept : goal.returns-clause-kept
 returns-clause-kept g c =
     let p : Parts = c.in_ok-problem.problem in
-    each_ok (Reaches (opening p c.args.options.now)) (λ (b : BookModel). b.kept ≡ []) c.solve.result (λ b h. (reaches_same h).2) c.solve.ensures.reached
+    each_ok (IsSearched (opening p (options_in 2 c.args.options.now))) (λ (b : BookModel). b.kept ≡ []) c.solve.result (λ b h. (searched_same h).2) c.solve.ensures.searched
 
 pub returns-clause-solved : goal.returns-clause-solved
 returns-clause-solved g c =
-    let p : Parts = c.in_ok-problem.problem in let o : Options = c.args.options.now in
-    ok_by (Reaches (opening p o)) (λ (b : BookModel). verdict_of b ≡ verdict.NotYet → ⊥) LeavesDue LeavesDue IsSolved c.solve.result
-    (λ b r v l w. solved_from (opening p o) b p o [] refl r v l) c.solve.ensures.reached c.solve.ensures.verdict c.solve.ensures.left c.solve.ensures.left
+    let p : Parts = c.in_ok-problem.problem in let o : Options = options_in 2 c.args.options.now in
+    ok_by (IsSearched (opening p o)) (λ (b : BookModel). verdict_of b ≡ verdict.NotYet → ⊥) LeavesDue LeavesDue IsSolved c.solve.result
+    (λ b r v l w. solved_from (opening p o) b p o [] refl r v l) c.solve.ensures.searched c.solve.ensures.verdict c.solve.ensures.left c.solve.ensures.left

@@ -8,7 +8,7 @@ loop-init g c = record { search = c.requires.search; reached = stays; room = c.r
 
 pub loop-preserved : goal.loop-preserved
 loop-preserved g c = record {
-  search = c.in_ok-work_once.ensures.search c.if-branch.true;
+  search = c.in_ok-work_once.ensures.search;
   reached = reaches_through c.loop.invariant.reached c.work_once.ensures.reached;
   room = c.work_once.ensures.room ∙ c.loop.invariant.room ∙ sym (reaches_same c.work_once.ensures.reached).0;
 }

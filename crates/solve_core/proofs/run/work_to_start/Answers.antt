@@ -8,13 +8,16 @@ loop-init g c = record { search = c.requires.search; reached = stays; room = c.r
 
 pub loop-preserved : goal.loop-preserved
 loop-preserved g c = record {
-  search = c.in_ok-work_if_few.ensures.search c.if-branch.true;
-  reached = reaches_through c.loop.invariant.reached c.work_if_few.ensures.reached;
-  room = c.work_if_few.ensures.room ∙ c.loop.invariant.room ∙ sym (reaches_same c.work_if_few.ensures.reached).0;
+  search = c.in_ok-work_until.ensures.search;
+  reached = reaches_through c.loop.invariant.reached c.work_until.ensures.reached;
+  room = c.work_until.ensures.room ∙ c.loop.invariant.room ∙ sym (reaches_same c.work_until.ensures.reached).0;
 }
 
-pub returns-in_err-work_if_few : goal.returns-in_err-work_if_few
-returns-in_err-work_if_few g c = reaches_through c.loop.invariant.reached c.work_if_few.ensures.reached
+pub returns-in_err-work_until-clause-reached : goal.returns-in_err-work_until-clause-reached
+returns-in_err-work_until-clause-reached g c = reaches_through c.loop.invariant.reached c.work_until.ensures.reached
 
-pub returns : goal.returns
-returns g c = reaches_through c.loop.invariant.reached c.work_if_few.ensures.reached
+pub returns-clause-search : goal.returns-clause-search
+returns-clause-search g c = c.in_ok-work_until.ensures.search
+
+pub returns-clause-reached : goal.returns-clause-reached
+returns-clause-reached g c = reaches_through c.loop.invariant.reached c.work_until.ensures.reached
