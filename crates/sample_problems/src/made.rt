@@ -53,6 +53,11 @@ pub fn small(problem: Problem) -> Option<Problem>
 /// The verdict of a certificate for the problem.
 pub fn verdict(alloc: Global, problem: &Problem, text: &[u8]) -> Result<Verdict, CertFault> {
     let mut feed = Feed::new(alloc, problem, None)?;
+    taken_whole(&mut feed, text)
+}
+
+// The verdict of a whole text. Apart from the owner of the feed, which then drops it at one exit alone.
+fn taken_whole(feed: &mut Feed, text: &[u8]) -> Result<Verdict, CertFault> {
     feed.piece(text)?;
     feed.end()
 }
