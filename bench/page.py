@@ -9,6 +9,7 @@ from typing import Callable, Iterable, Optional
 
 import pictures
 import tables
+from axes import AXES
 from goals import GOALS
 from made import MEMORY, READING
 from parts import CHECK, SETS, SOLVE, SOLVED
@@ -19,6 +20,7 @@ from workers import SMALL, WORKERS
 from workers_sim import MODEL
 
 LIMIT = 20.0  # processor seconds of a solver
+MANY = 100  # splits from which a script stands in the table of axes
 WORTH = 0.1  # seconds from which a row stands in the tables of times
 NAMES = {'dpoly': 'dpoly', 'rule': 'plain, same rule', 'plain': 'plain'}
 NAMES |= {'z3': 'z3', 'cvc5': 'cvc5'}
@@ -245,6 +247,25 @@ def powers() -> Table:
     return head, [[str(len(POWERS.rows)), *found, ', '.join(left)]]
 
 
+def axes() -> Table:
+    """Splits of scripts without a point, with the widest axis cut and with a chosen one."""
+    head = ['script', 'widest', 'chosen', 'times']
+    many, few, rows = [], [], []
+    for row in AXES:
+        if row['answer'] != 'unsat' or row['older answer'] != 'unsat':
+            continue
+        older, now = int(row['older splits']), int(row['splits'])
+        times = (now + 1) / (older + 1)
+        if max(older, now) < MANY:
+            few.append(times)
+            continue
+        many.append(times)
+        rows.append([row['script'], count(str(older)), count(str(now)), f'{times:.2f}'])
+    rows.append([f'mean of these {len(many)}', '', '', shown(mean(many))])
+    rows.append([f'mean of {len(few)} others, of fewer than {MANY}', '', '', shown(mean(few))])
+    return head, [*rows, ['mean of all', '', '', shown(mean(many + few))]]
+
+
 def plain_table(results: Results, numbers: Iterable[str] = ()) -> Table:
     """The rows of a file as they are."""
     columns = [it for it in results.columns if it != 'load']
@@ -282,7 +303,7 @@ def runs() -> Table:
     """When and on what the files were measured; those alike are in one row."""
     head = ['files', 'date', 'program of commit', 'machine', 'load when timed, at most']
     rows: dict[tuple[str, ...], list[str]] = {}
-    for results in (SOLVE, CHECK, POWERS, WORKERS, SMALL, MODEL, MEMORY, GOALS, READING, *CARRIED):
+    for results in (SOLVE, CHECK, POWERS, AXES, WORKERS, SMALL, MODEL, MEMORY, GOALS, READING, *CARRIED):
         if not results.rows:
             continue
         loads = [float(it['load']) for it in results if it['load'] not in ('', '-')]
@@ -298,6 +319,7 @@ TABLES: dict[str, Callable[[], Table]] = {
     'reach': reach,
     'times': times,
     'powers': powers,
+    'axes': axes,
     'workers': workers,
     'workers-small': workers_small,
     'workers-model': workers_model,

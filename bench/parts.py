@@ -36,6 +36,7 @@ class Asked:
     commit: str = ''  # of the program, where its folder does not tell
     twin: str = TWIN
     rule: Optional[str] = None
+    older: Optional[str] = None  # for the part axes
     sets: Optional[str] = None
     seconds: float = 20.0  # processor seconds of one run
     most_load: float = 1.5  # above it nothing is timed
