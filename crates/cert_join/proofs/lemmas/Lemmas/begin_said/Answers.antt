@@ -1,0 +1,5 @@
+use Rattle.cert_join.proofs.LemmaLines.{next_begun}
+use Rattle.cert_join.proofs.lemmas.Lemmas.begin_said.Goals as goal
+
+pub returns : goal.returns
+returns c there = next_begun _ _ _ _ _ _ _ there c.index-numbers-begun.is c.begin.ensures
