@@ -45,7 +45,7 @@ byte-is b e = eqb-true b 10 e
 
 cut : (l m : List ℕ) (ls : List (List ℕ)) (bytes : List ℕ) → lines_of bytes ≡ l ∷ m ∷ ls → IsCut l (m ∷ ls) bytes
 cut l m ls [] e = absurd (not-none l (m ∷ ls) e)
-cut l m ls (b ∷ bs) e = by-feed (nat_eq b 10) refl e where
+cut l m ls (b ∷ bs) e = by-feed (λ w f. cut w m ls bs f) (nat_eq b 10) refl e where
   parts : (w : List ℕ) × (ws : List (List ℕ)) × (split_at 10 bs ≡ w ∷ ws)
   parts = split_some 10 bs
 
@@ -53,16 +53,16 @@ cut l m ls (b ∷ bs) e = by-feed (nat_eq b 10) refl e where
   later [] w p f = absurd (not-none m ls f)
   later (v ∷ ws) w p f = ap without_last_empty p ∙ first-kept w v ws ∙ ap (λ (xs : List (List ℕ)). w ∷ xs) f
 
-  by-feed : (t : Bool) → nat_eq b 10 ≡ t → without_last_empty (cond t ([] ∷ split_at 10 bs) (onto_first b (split_at 10 bs))) ≡ l ∷ m ∷ ls → IsCut l (m ∷ ls) (b ∷ bs)
-  by-feed true q f =
+  by-feed : ((w : List ℕ) → lines_of bs ≡ w ∷ m ∷ ls → IsCut w (m ∷ ls) bs) → (t : Bool) → nat_eq b 10 ≡ t → without_last_empty (cond t ([] ∷ split_at 10 bs) (onto_first b (split_at 10 bs))) ≡ l ∷ m ∷ ls → IsCut l (m ∷ ls) (b ∷ bs)
+  by-feed rec true q f =
       let g : [] ∷ lines_of bs ≡ l ∷ m ∷ ls =
       sym (ap (λ (xs : List (List ℕ)). without_last_empty ([] ∷ xs)) parts.2 ∙ first-kept [] parts.0 parts.1 ∙ ap (λ (xs : List (List ℕ)). [] ∷ without_last_empty xs) (sym parts.2)) ∙ f in
       let h = heads-same [] l (lines_of bs) (m ∷ ls) g in
       record { rest = bs; whole = ap (λ (k : ℕ). k ∷ bs) (byte-is b q) ∙ ap (λ (x : List ℕ). x ++ (10 ∷ bs)) h.0; behind = h.1 }
-  by-feed false q f =
+  by-feed rec false q f =
       let g : (b ∷ parts.0) ∷ without_last_empty parts.1 ≡ l ∷ m ∷ ls = sym (ap (λ (xs : List (List ℕ)). without_last_empty (onto_first b xs)) parts.2 ∙ some-kept b parts.0 parts.1) ∙ f in
       let h = heads-same (b ∷ parts.0) l (without_last_empty parts.1) (m ∷ ls) g in
-      let r = cut parts.0 m ls bs (later parts.1 parts.0 parts.2 h.1) in
+      let r = rec parts.0 (later parts.1 parts.0 parts.2 h.1) in
       record { rest = r.rest; whole = ap (λ (x : List ℕ). b ∷ x) r.whole ∙ ap (λ (x : List ℕ). x ++ (10 ∷ r.rest)) h.0; behind = r.behind }
 
 -- and a line before a line feed is the first
@@ -117,8 +117,9 @@ bits-of-text c bytes t =
 
 -- ---- several
 
-same-bits : (m n d e : ℕ) → Some (m, d) ≡ Some (n, e) → (m ≡ n) × (d ≡ e)
-same-bits m n d e h = (cc, cc)
+same-bits : (m n d e : ℕ) → ◌≡◌ {A = Option (ℕ × ℕ)} (Some (m, d)) (Some (n, e)) → (m ≡ n) × (d ≡ e)
+same-bits m n d e h =
+    let both : ◌≡◌ {A = ℕ × ℕ} (m, d) (n, e) = cc in (ap (λ (x : ℕ × ℕ). x.0) both, ap (λ (x : ℕ × ℕ). x.1) both)
 
 abbrev HasBits : Cover → Cover → Type 0
 HasBits first c = (c.margin_bits ≡ first.margin_bits) × (c.delta_bits ≡ first.delta_bits)
