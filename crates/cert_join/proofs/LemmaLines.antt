@@ -5,7 +5,7 @@ use Rattle.std.specs.declared.alloc.AllocError.{AllocError}
 use Rattle.std.specs.List.{AllByRecursion}
 use Rattle.std.proofs.Math.Seq.{drop-cons}
 use Rattle.std.proofs.lemmas.Bool.{eqb-true}
-use Rattle.std.proofs.lemmas.Option.{slice_get_read, slice_get_within, get_or_from_slice_get}
+use Rattle.std.proofs.lemmas.Option.{slice_get-get_or, slice_get_within, get_or_from_slice_get}
 use Rattle.cover_model.specs.Rules.{Line}
 use Rattle.cover_model.specs.Derivation.{Tree, leaf, then, fork, tree_lines}
 use Rattle.cert_read.specs.CertLine.{CertLine, tree_word, lemma, real_interval, bool_value, yes_list, no_list, rule_line}
@@ -225,10 +225,10 @@ some_lines begun r t =
     omega (arith, ap (λ (ls : List CertLine). length (texts_of ls)) e, ap length (map_both line_text xs (tree_word ∷ tree_part t)), length-append (texts_of xs) (texts_of (tree_word ∷ tree_part t)))
 
 -- the number of the next lemma is there
-pub next_begun : (numbers : List ℕ) (s s' : Lemmas) (old new : List ℕ) (n : ℕ) (r : Result (Unit {0}) AllocError) → s.begun < length numbers → n ≡ get_or numbers s.begun n →
-    OnOk r (IsBegun n s s' old new) → OnOk r (IsNextBegun numbers s s' old new)
-next_begun numbers s s' old new n (Err e) l is h = tt
-next_begun numbers s s' old new n (Ok x) l is h = (n, slice_get_read numbers (length numbers) s.begun n refl l is, h)
+pub next_begun : (numbers : List ℕ) (s s' : Lemmas) (old new : List ℕ) (r : Result (Unit {0}) AllocError) → s.begun < length numbers →
+    OnOk r (IsBegun (get_or numbers s.begun 0) s s' old new) → OnOk r (IsNextBegun numbers s s' old new)
+next_begun numbers s s' old new (Err e) l h = tt
+next_begun numbers s s' old new (Ok x) l h = (get_or numbers s.begun 0, slice_get-get_or numbers s.begun 0 l, h)
 
 -- at the line `tree` nothing is left
 pub at_tree : (cert : List ℕ) (t : Tree) (numbers : List ℕ) (s s' : Lemmas) (middle : List CertLine) (lemmas : List Lemma) (spot : Spot) (old new l : List ℕ) (ls : List (List ℕ)) (b : Bool) →

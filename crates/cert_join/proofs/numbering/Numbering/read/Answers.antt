@@ -7,8 +7,8 @@ use Rattle.cert_join.specs.Numbered.{line_kind, TakesNext}
 use Rattle.cert_join.proofs.Certificates.{reads_next}
 use Rattle.cert_join.proofs.numbering.Numbering.read.Goals as goal
 
-pub returns-in-Ok : goal.returns-in-Ok
-returns-in-Ok c = λ cert before x t r.
+pub returns : goal.returns
+returns c = λ cert before x t r.
     let s = c.is_ready.new.self in
     let took = subst (λ (h : Numbering). (l : CertLine) → line_in s ≡ Some (line_text l) → TakesNext (line_kind l) (line_text l) h (Ok c.in-Ok.kind) c.take_next.new.self) c.begun-mark.ensures.same c.in-Ok.ensures in
     reads_next cert before x c.args.self.now c.take_next.new.self c.args.cursor.now s c.move_on.new.cursor c.begun-mark.result (Ok c.in-Ok.kind) t r c.begun-mark.ensures.mark

@@ -1,4 +1,4 @@
-use Rattle.std.proofs.Common.{◌≡◌, ◌∷◌, ◌++◌, ℕ, List, ap, sym, ◌∙◌, subst}
+use Rattle.std.proofs.Common.{◌≡◌, ◌∷◌, ◌++◌, ℕ, List, Some, ap, sym, ◌∙◌, subst}
 use Rattle.cover_model.specs.Rules.{Line}
 use Rattle.cert_join.specs.declared.joiner.Step.TheVariants.{On}
 use Rattle.cert_join.specs.declared.weighing.Weighing.{Weighing}
