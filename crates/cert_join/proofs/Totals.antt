@@ -97,7 +97,7 @@ AllBegin l ts = AllByRecursion (λ (t : Tree). first_line t ≡ l) ts
 alike-or-not : (l : Line) (ts : List Tree) → IsSpelled (rule_line l) → AllFit ts → AllBegin l ts ⊎ (AllBegin l ts → ⊥)
 alike-or-not l [] s h = inl tt
 alike-or-not l (t ∷ ts) s h = elim (same-or-not (first_line t) l (first-spelled t h.0) s) [
-  | inl e ↦ elim (alike-or-not l ts s h.1) [ inl all ↦ inl (e, all) | inr no ↦ inr (λ all. no all.1) ]
+  | inl e ↦ elim (alike-or-not l ts s h.1) [ inl all ↦ inl (e, all) | inr differs ↦ inr (λ all. differs all.1) ]
   | inr ne ↦ inr (λ all. ne all.0)
 ]
 
@@ -187,7 +187,7 @@ module _ (n : ℕ) (fewer : (ts : List Tree) → lines-in ts ≤ n → 0 < lengt
   by-going (t ∷ []) e few fit = (t, one t ts e)
   by-going (t ∷ v ∷ more) e few fit = elim (alike-or-not (first_line t) (v ∷ more) (first-spelled t fit.0) fit.1) [
     | inl same ↦ alike (first_line t) t (v ∷ more) (arity (first_line t)) e few fit (refl, same) refl
-    | inr no ↦ (first_closed t (t ∷ v ∷ more), differ t (v ∷ more) ts e no)
+    | inr differs ↦ (first_closed t (t ∷ v ∷ more), differ t (v ∷ more) ts e differs)
   ]
 
 no-trees : (ts : List Tree) → lines-in ts ≤ 0 → 0 < length ts → ⊥
@@ -242,7 +242,7 @@ yields-some numbers k [] good = ([], refl)
 yields-some numbers k (place ∷ due) good =
     let j = place-joinable numbers k place good.0.some good.0.shaped good.0.spelled in
     let r = yields-some numbers k due good.1 in
-    (tree_text j.0 ++ r.0, j.0, r.0, j.1, r.1, refl)
+    (tree_text j.0 ++ r.0, (j.0, r.0, j.1, r.1, refl))
 
 -- ---- what is under way
 

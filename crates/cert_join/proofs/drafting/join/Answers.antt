@@ -5,5 +5,5 @@ pub returns : goal.returns
 returns g c = λ s p b before way.
     joins_all s p b c.args.count before c.new-text.result.items c.in-Ok.joiner c.run.new.joiner _ _ _ _ c.run.new.text.items c.run.result c.in-Ok.ensures c.new-text.ensures.items way c.run.ensures
 
-pub returns-in-default : goal.returns-in-default
-returns-in-default g c = λ s p b before way. record { stopped = (before, way.drafted); reason = λ certs first others shown many texts. tt }
+pub returns-in_default : goal.returns-in_default
+returns-in_default g c = λ s p b before way. record { stopped = (before, way.drafted); reason = λ certs first others shown many texts. tt }

@@ -15,4 +15,4 @@ pub returns-in-Err-Memory-piece : goal.returns-in-Err-Memory-piece
 returns-in-Err-Memory-piece g c s p b before way = stops_there s p b before _ _ _ _ way c.in-Ok.ensures.ok
 
 pub returns-in-Err : goal.returns-in-Err
-returns-in-Err g c s p b before way = refuses_there s p b before _ _ _ _ _ c.in-Err.fault way c.in-Ok.ensures.ok c.in-Err.ensures.goes
+returns-in-Err g c s p b before way = refuses_there s p b before _ _ _ c.piece.new.self _ c.in-Err.fault way c.in-Ok.ensures.ok c.in-Err.ensures.goes

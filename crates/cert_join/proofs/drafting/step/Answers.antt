@@ -14,9 +14,8 @@ returns-in-Ok-put g c = λ s p b before done way.
 
 pub returns-in-Err-put : goal.returns-in-Err-put
 returns-in-Err-put g c = λ s p b before done way.
-    let begins =
-    goes_begins s p b before done c.args.text.now.items c.args.joiner.now _ _ way c.in-Ok-On.field-0 c.step.new.text.items c.step.new.self c.in-Ok-On.field-0-is c.in-Ok-On.ensures (omega arith) in
-    unput_on s p b before done c.args.text.now.items c.args.joiner.now _ _ way c.in-Err-put.stop c.step.new.text.items c.deref.result.now _ _ begins
+    unput_on s p b before done c.args.text.now.items c.args.joiner.now _ _ way c.in-Err-put.stop c.step.new.text.items c.deref.result.now _ _
+    (goes_begins s p b before done c.args.text.now.items c.args.joiner.now _ _ way c.in-Ok-On.field-0 c.step.new.text.items c.step.new.self c.in-Ok-On.field-0-is c.in-Ok-On.ensures (omega arith))
     (c.in-Err-put.ensures s p b (before ++ done) way) c.deref.ensures.value
 
 pub returns-in-Ok-put-2 : goal.returns-in-Ok-put-2
@@ -26,9 +25,8 @@ returns-in-Ok-put-2 g c = λ s p b before done way.
 
 pub returns-in-Err-put-2 : goal.returns-in-Err-put-2
 returns-in-Err-put-2 g c = λ s p b before done way.
-    let begins =
-    over_begins s p b before done c.args.text.now.items c.args.joiner.now _ _ way c.in-Ok-Over.field-0 c.step.new.text.items c.step.new.self c.in-Ok-Over.field-0-is c.in-Ok-Over.ensures in
-    unput_on s p b before done c.args.text.now.items c.args.joiner.now _ _ way c.in-Err-put-2.stop c.step.new.text.items c.deref-in-Ok-Over.result.now _ _ begins
+    unput_on s p b before done c.args.text.now.items c.args.joiner.now _ _ way c.in-Err-put-2.stop c.step.new.text.items c.deref-in-Ok-Over.result.now _ _
+    (over_begins s p b before done c.args.text.now.items c.args.joiner.now _ _ way c.in-Ok-Over.field-0 c.step.new.text.items c.step.new.self c.in-Ok-Over.field-0-is c.in-Ok-Over.ensures)
     (c.in-Err-put-2.ensures s p b (before ++ done) way) c.deref-in-Ok-Over.ensures.value
 
 pub returns-in-Err-Memory : goal.returns-in-Err-Memory

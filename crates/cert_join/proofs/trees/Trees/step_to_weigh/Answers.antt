@@ -16,11 +16,11 @@ returns-in-Read c k text d =
     let P : Step → Type 0 = λ z. IsWeighStep d.certs d.taken d.ends c.step.new.self c.step.new.cursors z in
     weighed_on k _ _ _ _ _ _ d c.step.auto.cursors (subst P c.in-Read.is (c.step.ensures d.certs d.taken d.ends d.weighing))
 
-pub returns-in-default : goal.returns-in-default
-returns-in-default c k text d =
+pub returns-in_default : goal.returns-in_default
+returns-in_default c k text d =
     let P : Step → Type 0 = λ z. IsWeighStep d.certs d.taken d.ends c.step.new.self c.step.new.cursors z in
     let w = subst P c.in-Over.is (c.step.ensures d.certs d.taken d.ends d.weighing) in
-    absurd (c.in-default.ensures d.certs d.taken w.choosing)
+    absurd (c.in_default.ensures d.certs d.taken w.choosing)
 
 pub returns-then-part-cursors : goal.returns-then-part-cursors
 returns-then-part-cursors c k text d =
