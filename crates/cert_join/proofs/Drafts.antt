@@ -19,7 +19,7 @@ use Rattle.cert_join.specs.declared.stop.Stop.{Stop}
 use Rattle.cert_join.specs.declared.stop.Stop.TheVariants.{Failed, Denied, Memory, Unlike, Crowded, Refused}
 use Rattle.cert_join.specs.declared.stop.Unjoined.{Unjoined}
 use Rattle.cert_join.specs.declared.stop.Unjoined.TheVariants as unjoined
-use Rattle.cert_join.specs.Drafting.{HasDrafted, HasFault, IsReadFailed, IsDraftFailed, IsOn, IsJoinedBehind, IsPut, IsRun, IsStoppedOn, IsSomeDrafted, IsStopped, IsWhole, Keeps, Reads, Runs}
+use Rattle.cert_join.specs.Drafting.{HasDrafted, HasFault, IsReadFailed, IsDraftFailed, IsOn, IsJoinedBehind, IsPut, IsRun, IsStoppedOn, IsSomeDrafted, IsWhole, Keeps, Reads, Runs}
 use Rattle.cert_join.specs.Gathered.{lists_of}
 use Rattle.cert_join.specs.Joining.{HasStepped, IsJoinText, IsJoining}
 use Rattle.cert_join.proofs.Moved.{at_moved}

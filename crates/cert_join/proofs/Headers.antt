@@ -3,7 +3,7 @@ use Rattle.std.proofs.Common.{◌≡◌, ◌≢◌, ◌<◌, ◌≤◌, ◌+◌,
 use Rattle.std.specs.Prelude.{nat_eq, slice_get, slice_set, unwrap_or, OnOk}
 use Rattle.std.specs.List.{AllByRecursion}
 use Rattle.std.proofs.lemmas.Bool.Decides.{eqb_tells}
-use Rattle.std.proofs.lemmas.Bool.{cases_lt, ne_eqb}
+use Rattle.std.proofs.lemmas.Bool.{cases_lt}
 use Rattle.std.proofs.lemmas.Option.{slice_get_within}
 use Rattle.std.specs.declared.alloc.AllocError.{AllocError}
 use Rattle.cert_read.specs.CertLine.{CertLine, Parsed, parsed, line, version, margin, delta, bound, cover}
@@ -19,7 +19,7 @@ use Rattle.cert_join.specs.declared.stop.Unjoined.TheVariants.{Unlike}
 use Rattle.cert_join.specs.Ahead.{AreBefore}
 use Rattle.cert_join.specs.Spot.{Spot, IsBefore, IsFirst, line_in}
 use Rattle.cert_join.specs.Written.{text_of, behind_header}
-use Rattle.cert_join.specs.Heads.{all_lines, ahead_of, firsts, lines_read, IsKept, margin_line, delta_line, bound_line, HasRead, IsReading, TakesText, TakesLine, IsBehind, HasReadOf, ReadsOf, ReadsHeads, AreAlike, head_lines, head_text, AreHeadsRead, AreJoinable, IsUnjoined, IsUnlike}
+use Rattle.cert_join.specs.Heads.{all_lines, ahead_of, firsts, lines_read, IsKept, margin_line, delta_line, bound_line, HasRead, IsReading, TakesText, TakesLine, IsBehind, HasReadOf, ReadsOf, ReadsHeads, AreAlike, head_lines, head_text, AreHeadsRead, IsUnjoined, IsUnlike}
 
 -- ---- places
 

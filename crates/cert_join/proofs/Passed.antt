@@ -1,8 +1,8 @@
 -- A line that is known, and passed.
-use Rattle.std.proofs.Common.{◌≡◌, ◌<◌, ℕ, List, ◌∷◌, true, false, Some, length, ap, sym, ◌∙◌, subst}
+use Rattle.std.proofs.Common.{◌≡◌, ◌<◌, ℕ, List, ◌∷◌, true, false, length, ap, sym, ◌∙◌, subst}
 use Rattle.std.specs.Str.{bytes_eq}
 use Rattle.std.proofs.lemmas.Slice.Eq.{bytes_eq-Decides}
-use Rattle.cert_join.specs.Spot.{Spot, IsBefore, IsReady, line_in, text_in}
+use Rattle.cert_join.specs.Spot.{Spot, IsBefore, IsReady, text_in}
 use Rattle.cert_join.specs.Gathered.{Passed}
 use Rattle.cert_join.proofs.Spots.{before_same, ready_first}
 

@@ -6,7 +6,7 @@ use Rattle.std.proofs.lemmas.Bool.{cases_Bool}
 use Rattle.std.proofs.lemmas.List.{length-map}
 use Rattle.cover_model.specs.Rules.{Line}
 use Rattle.cover_model.specs.Derivation.{Tree, leaf, then, fork, tree_lines}
-use Rattle.cert_read.specs.CertLine.{CertLine, end_word, rule_line, tree_word}
+use Rattle.cert_read.specs.CertLine.{end_word, rule_line, tree_word}
 use Rattle.cert_read.specs.LineText.{IsSpelled}
 use Rattle.cert_joined.specs.Joined.{Joins, none, one, ends, steps, forks, differ, first_closed, first_line, going_on, leaves_at_once}
 use Rattle.cert_joined.specs.Covers.{Arity, AreTextsOf, Cover, IsShaped, arity, goes_on, line_by, numbered, splits, tree_by, trees_by}

@@ -1,5 +1,5 @@
 -- What is left of the lemmas of several certificates, and what is written of them.
-use Rattle.std.specs.Prelude.{◌≡◌, ◌⊎◌, ℕ, suc, ◌+◌, List, [], ◌∷◌, ◌++◌, Bool, true, false, cond, length, map, drop, nat_eq, Some, Result, Ok, Err, slice_get, get_or}
+use Rattle.std.specs.Prelude.{◌≡◌, ◌⊎◌, ℕ, suc, ◌+◌, List, [], ◌∷◌, ◌++◌, false, cond, length, map, drop, nat_eq, Some, Result, Ok, Err, slice_get, get_or}
 use Rattle.std.specs.List.{AllByRecursion}
 use Rattle.std.specs.declared.alloc.AllocError.{AllocError}
 use Rattle.cover_model.specs.Derivation.{Tree, tree_lines}

@@ -1,5 +1,5 @@
 use Rattle.std.proofs.Common.{List, ℕ, Ok, Some, drop, ap, sym, ◌∙◌, subst}
-use Rattle.cert_join.specs.Spot.{IsBefore, IsFirst}
+use Rattle.cert_join.specs.Spot.{IsFirst}
 use Rattle.cert_join.specs.Heads.{all_lines}
 use Rattle.cert_join.proofs.Headers.{none_unlike, reads, some_ahead}
 use Rattle.cert_join.proofs.Passed.{told}

@@ -1,4 +1,4 @@
-use Rattle.std.proofs.Common.{◌≡◌, ℕ, List, Result, Some, Ok, Err, subst}
+use Rattle.std.proofs.Common.{◌≡◌, Some, Ok, Err, subst}
 use Rattle.cert_read.specs.CertLine.{CertLine}
 use Rattle.cert_read.specs.LineText.{line_text}
 use Rattle.cert_join.specs.declared.numbering.Numbering.{Numbering}
