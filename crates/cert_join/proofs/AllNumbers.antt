@@ -11,7 +11,8 @@ use Rattle.cert_read.specs.Lines.{lines_of}
 use Rattle.cert_read.specs.LineText.{line_text, IsSpelled}
 use Rattle.cert_read.proofs.Pieces.{AllLack, lines_of_text}
 use Rattle.cert_read.proofs.Spelled.{spelled_line, line_lacks_break}
-use Rattle.cert_joined.specs.Covers.{Cover, Lemma, AreAllLemmas, state_lines, numbered, number_at}
+use Rattle.cert_model.specs.Accepted.{most_lemmas}
+use Rattle.cert_joined.specs.Covers.{Cover, Lemma, AreAllLemmas, IsCrowded, IsLemmaAt, state_lines, numbered, number_at}
 use Rattle.cert_join.specs.Numbered.{state_text, place_of, IsNumbered, HaveNumbers, AllHaveNumbers}
 use Rattle.cert_join.specs.Written.{texts_of, text_of, lemma_by, new_ones, written_from}
 use Rattle.cert_join.proofs.Numbers.{place_new, place_other, at_place, not_there, not_same}
@@ -24,7 +25,7 @@ some_same x y e = ap (λ o. unwrap_or o x) e
 
 -- ---- lists
 
-get_front : {X : Type 0} (xs ys : List X) (n : ℕ) (x : X) → slice_get xs n ≡ Some x → slice_get (xs ++ ys) n ≡ Some x
+pub get_front : {X : Type 0} (xs ys : List X) (n : ℕ) (x : X) → slice_get xs n ≡ Some x → slice_get (xs ++ ys) n ≡ Some x
 get_front [] ys n x e = absurd (none_some x e)
 get_front (y ∷ xs) ys zero x e = e
 get_front (y ∷ xs) ys (suc n) x e = get_front xs ys n x e
@@ -35,7 +36,7 @@ get_either [] ys n x e = inr (n, omega arith, e)
 get_either (y ∷ xs) ys zero x e = inl e
 get_either (y ∷ xs) ys (suc n) x e = elim (get_either xs ys n x e) [ inl h ↦ inl h | inr h ↦ inr (h.0, omega (arith, h.1), h.2) ]
 
-get_map : {X : Type 0} (f : X → List ℕ) (xs : List X) (n : ℕ) (t : List ℕ) → slice_get (map f xs) n ≡ Some t → (x : X) × (slice_get xs n ≡ Some x) × (f x ≡ t)
+get_map : {X Y : Type 0} (f : X → Y) (xs : List X) (n : ℕ) (t : Y) → slice_get (map f xs) n ≡ Some t → (x : X) × (slice_get xs n ≡ Some x) × (f x ≡ t)
 get_map f [] n t e = absurd (none_some t e)
 get_map f (x ∷ xs) zero t e = (x, refl, some_same (f x) t e)
 get_map f (x ∷ xs) (suc n) t e = get_map f xs n t e
@@ -287,3 +288,25 @@ all_long [] (d ∷ covers) ts after i c h e = absurd h
 all_long (ns ∷ numbers) [] ts after i c h e = absurd h
 all_long (ns ∷ numbers) (d ∷ covers) ts after zero c h e = one_long ns d.lemmas ts h.0 h.1 ∙ ap (λ (x : Cover). length x.lemmas) (some_same d c e)
 all_long (ns ∷ numbers) (d ∷ covers) ts after (suc i) c h e = all_long numbers covers h.0 after i c h.2 e
+
+-- ---- too many
+
+-- lemmas of some covers, which are lemmas of these as well, have too many states
+pub are_crowded : (numbers : List (List ℕ)) (some covers : List Cover) (after : List (List ℕ)) → ((i k : ℕ) (x : Lemma) → IsLemmaAt some i k x → IsLemmaAt covers i k x) →
+    AllHaveNumbers [] numbers some after → most_lemmas < length after → IsCrowded covers
+are_crowded numbers some covers after sub h many =
+    let xs = written_from 0 numbers some in
+    let all : after ≡ map state_text xs = all_new numbers some [] after h in
+    let once : IsOnce after = all_once numbers some [] after (λ n t e. absurd (none_some t e)) h in
+    let place : (n : ℕ) (s : List CertLine) → slice_get (map state_lines xs) n ≡ Some s → place_of (text_of s) after ≡ Some n =
+    λ n s e. let y = get_map state_lines xs n s e in
+    once n (text_of s) (ap (λ (b : List (List ℕ)). slice_get b n) all ∙ map_get state_text xs n y.0 y.1 ∙ ap (λ (ls : List CertLine). Some (text_of ls)) y.2) in
+    record {
+      states = map state_lines xs;
+      among = λ n s e.
+          let y = get_map state_lines xs n s e in
+          let t = all_taken numbers some [] after n y.0 h y.1 in
+          (t.i, t.k, t.x, sub t.i t.k t.x (record { cover = t.c; covers_at = t.covers_at; lemma_at = t.here }), sym y.2 ∙ ap state_lines t.same);
+      once = λ m n s e g. some_same m n (sym (place m s e) ∙ place n s g);
+      many = omega (arith, many, length-map xs state_lines, all_counted numbers some after h);
+    }

@@ -1,5 +1,5 @@
 -- Certificates whose lemmas are numbered, one after the other.
-use Rattle.std.proofs.Common.{◌≡◌, ◌≢◌, ◌<◌, ◌≤◌, ℕ, zero, suc, List, [], ◌∷◌, ◌++◌, Bool, true, Option, Some, None, Result, Ok, Err, length, map, take, get_or, refl, ap, sym, ◌∙◌, subst, ◌⊎◌, inl, inr, arith}
+use Rattle.std.proofs.Common.{◌≡◌, ◌≢◌, ◌<◌, ◌≤◌, ℕ, zero, suc, List, [], ◌∷◌, ◌++◌, append_assoc, Bool, true, false, Option, Some, None, Result, Ok, Err, length, map, take, get_or, refl, ap, sym, ◌∙◌, subst, ◌⊎◌, inl, inr, arith}
 use Rattle.std.specs.Prelude.{slice_get, slice_set, unwrap_or}
 use Rattle.std.specs.List.{AllByRecursion}
 use Rattle.std.specs.declared.alloc.Global.{Global}
@@ -7,25 +7,27 @@ use Rattle.std.specs.declared.vec.Vec.{Vec}
 use Rattle.std.proofs.lemmas.List.{map-append}
 use Rattle.std.proofs.lemmas.Option.{slice_get_within}
 use Rattle.cover_model.specs.Derivation.{tree_lines}
+use Rattle.cert_model.specs.Accepted.{most_lemmas}
 use Rattle.cert_model.specs.Written.{rule_lines}
-use Rattle.cert_read.specs.CertLine.{CertLine}
+use Rattle.cert_read.specs.CertLine.{CertLine, end_word, no_list, tree_word}
 use Rattle.cert_read.specs.LineText.{line_text, IsSpelled}
-use Rattle.cert_joined.specs.Covers.{Cover, Lemma, IsTextOf, AreTextsOf, state_lines, lemma_lines, lemmas_lines}
+use Rattle.cert_joined.specs.Covers.{Cover, Lemma, IsLemmaAt, IsTextOf, AreTextsOf, state_lines, lemma_lines, lemmas_lines}
 use Rattle.cert_join.specs.declared.cursor.Mark.{Mark}
 use Rattle.cert_join.specs.declared.joiner.Step.{Step}
 use Rattle.cert_join.specs.declared.joiner.Step.TheVariants.{Read, On, Over}
 use Rattle.cert_join.specs.declared.stop.Unjoined.{Unjoined}
+use Rattle.cert_join.specs.declared.stop.Unjoined.TheVariants.{Memory, Unlike, Crowded}
 use Rattle.cert_join.specs.declared.numbering.Kind.{Kind}
 use Rattle.cert_join.specs.declared.numbering.Kind.TheVariants.{Lemma as LemmaKind, No, Tree as TreeKind, Other}
 use Rattle.cert_join.specs.declared.numbering.Known.{Known}
 use Rattle.cert_join.specs.declared.numbering.Numbering.{Numbering}
 use Rattle.cert_join.specs.Ahead.{AreBefore}
-use Rattle.cert_join.specs.Spot.{Spot, IsBefore, IsFirst, IsMark, IsNext, line_in, rewound}
+use Rattle.cert_join.specs.Spot.{Spot, IsBefore, IsFirst, IsMark, IsReady, line_in, rewound, text_in}
 use Rattle.cert_join.specs.Written.{texts_of, behind_header}
-use Rattle.cert_join.specs.Numbered.{line_kind, IsKnown, HaveNumbers, AllHaveNumbers, IsAt, IsBetween, tail_lines, TakesLine, TakesNext, EndsPart, IsMarked, IsReadingPart, IsPartRead, StaysInPart, ReadsPart, lists_of, around, IsResting, IsWithin, IsNumbering, AreNumbered, ReadsLemmas}
-use Rattle.cert_join.proofs.AllNumbers.{AreStatesSpelled, are_all_lemmas, all_counted, all_long, all_many}
+use Rattle.cert_join.specs.Numbered.{line_kind, IsKnown, HaveNumbers, AllHaveNumbers, IsAt, IsBetween, tail_lines, TakesLine, TakesNext, EndsPart, IsMarked, IsPartCrowded, IsReadingPart, IsPartRead, StaysInPart, ReadsPart, lists_of, around, IsResting, IsWithin, IsNumbering, AreNumbered, ReadsLemmas}
+use Rattle.cert_join.proofs.AllNumbers.{AreStatesSpelled, are_all_lemmas, are_crowded, get_front, all_counted, all_long, all_many}
 use Rattle.cert_join.proofs.Headers.{text_at, take_whole}
-use Rattle.cert_join.proofs.Spots.{before_again, before_same}
+use Rattle.cert_join.proofs.Spots.{before_again, before_same, ready_first}
 use Rattle.cert_join.proofs.Walks.{HasBoxes, all_split, takes, at_tree}
 
 none_some : {X : Type 0} (x : X) → None ≡ Some x → ⊥
@@ -121,36 +123,69 @@ no_not_tree e = cc
 other_not_tree : Other ≡ TreeKind → ⊥
 other_not_tree e = cc
 
+-- ---- a line is next
+
+some_behind : (xs : List CertLine) (y : CertLine) (ys : List CertLine) → 0 < length (texts_of (xs ++ (y ∷ ys)))
+some_behind [] y ys = omega arith
+some_behind (x ∷ xs) y ys = omega arith
+
+some_next : (inside : Bool) (before : List (List ℕ)) (c : Cover) (state own : List ℕ) (known : List (List ℕ)) (ls : List CertLine) → IsAt inside before c state own known ls →
+    0 < length (texts_of ls)
+some_next true before c state own known ls a =
+    omega (arith, some_behind a.left (no_list a.last) (rule_lines (tree_lines a.now.tree) ++ (lemmas_lines (suc (length a.done)) a.due ++ tail_lines c)), ap (λ (xs : List CertLine). length (texts_of xs)) a.ahead)
+some_next false before c state own known ls a =
+    let tail = rule_lines (tree_lines c.tree) ++ (end_word ∷ []) in
+    let lemmas = lemmas_lines (length a.done) a.due in
+    let e : ls ≡ (a.rules ++ lemmas) ++ (tree_word ∷ tail) = a.ahead ∙ sym (append_assoc a.rules lemmas (tree_word ∷ tail)) in
+    omega (arith, some_behind (a.rules ++ lemmas) tree_word tail, ap (λ (xs : List CertLine). length (texts_of xs)) e)
+
+-- too many states are known
+many_known : (inside : Bool) (before : List (List ℕ)) (c : Cover) (state own : List ℕ) (known : List (List ℕ)) (ls : List CertLine) → IsAt inside before c state own known ls →
+    most_lemmas < length known → IsPartCrowded before c
+many_known true before c state own known ls a many = record { own = own; done = a.done; due = a.now ∷ a.due; known = known; lemmas = a.lemmas; numbers = a.numbers; many = many }
+many_known false before c state own known ls a many = record { own = own; done = a.done; due = a.due; known = known; lemmas = a.lemmas; numbers = a.numbers; many = many }
+
+-- what comes of a line that was taken
+abbrev pub ReadsNext : List ℕ → List (List ℕ) → Cover → Numbering → Result Kind Unjoined → Numbering → Spot → Type 0
+ReadsNext cert before c old (Ok found) new s = StaysInPart cert before c old new s ⊎ IsPartRead cert before c old new s
+ReadsNext cert before c old (Err e) new s = ReadsPart cert before c old (Err e) new s
+
+abbrev pub MovesOn : Result Kind Unjoined → Mark → Spot → Spot → Type 0
+MovesOn (Ok found) m s' s'' = (found ≡ TreeKind → s'' ≡ rewound m) × ((found ≢ TreeKind) → (cert l : List ℕ) (ls : List (List ℕ)) → IsBefore cert (l ∷ ls) s' → line_in s' ≡ Some l → IsBefore cert ls s'')
+MovesOn (Err e) m s' s'' = Unit {0}
+
 -- a line was read
-pub reads_next : (cert : List ℕ) (before : List (List ℕ)) (c : Cover) (old new : Numbering) (s s' s'' : Spot) (m : Mark) (found : Kind) →
-    IsTextOf c cert → (r : IsReadingPart cert before c old s) → (old.mark ≡ Some m) ⊎ ((old.mark ≡ None) × IsMark s m) → s' ≡ record s { size = s'.size } →
-    IsNext (texts_of r.ls) s' (Ok true) →
-    ((l : CertLine) → line_in s' ≡ Some (line_text l) → TakesNext (line_kind l) (line_text l) (marked old m) (Ok (Some found)) new) →
-    (found ≡ TreeKind → s'' ≡ rewound m) →
-    ((found ≡ TreeKind → ⊥) → (cert l : List ℕ) (ls : List (List ℕ)) → IsBefore cert (l ∷ ls) s' → line_in s' ≡ Some l → IsBefore cert ls s'') →
-    StaysInPart cert before c old new s'' ⊎ IsPartRead cert before c old new s''
-reads_next cert before c old new s s' s'' m found t r k same n take back on =
-    let x = next_line r.ls n.0 n.2 in
-    let has : line_in s' ≡ Some (line_text x.l) = n.1 ∙ ap Some x.text in
+pub reads_next : (cert : List ℕ) (before : List (List ℕ)) (c : Cover) (old new : Numbering) (s s' s'' : Spot) (m : Mark) (result : Result Kind Unjoined) →
+    IsTextOf c cert → (r : IsReadingPart cert before c old s) → (old.mark ≡ Some m) ⊎ ((old.mark ≡ None) × IsMark s m) → s' ≡ record s { size = s'.size } → IsReady s' →
+    ((l : CertLine) → line_in s' ≡ Some (line_text l) → TakesNext (line_kind l) (line_text l) (marked old m) result new) → MovesOn result m s' s'' → ReadsNext cert before c old result new s''
+reads_next cert before c old new s s' s'' m result t r k same ready take moves =
+    let told = subst (IsBefore cert (texts_of r.ls)) (sym same) (before_same cert (texts_of r.ls) s s'.size r.ahead) in
+    let f = ready_first cert (texts_of r.ls) s' (some_next old.is_in_state before c old.state.items old.own.items r.known r.ls r.at) told ready in
+    let x = next_line r.ls (text_in s') f.0 in
+    let has : line_in s' ≡ Some (line_text x.l) = f.1 ∙ ap Some x.text in
     let at = subst (IsAt old.is_in_state before c old.state.items old.own.items r.known) x.here r.at in
     let behind = marked_behind cert c old.mark s m r.marked k in
-    let b : IsBefore cert (texts_of (x.l ∷ x.rest)) s' =
-    subst (IsBefore cert (texts_of (x.l ∷ x.rest))) (sym same)
-    (before_same cert (texts_of (x.l ∷ x.rest)) s s'.size (subst (λ (ls : List CertLine). IsBefore cert (texts_of ls) s) x.here r.ahead)) in
-    go found x.l x.rest at behind b has (take x.l has) back on
+    let b : IsBefore cert (texts_of (x.l ∷ x.rest)) s' = subst (λ (ls : List CertLine). IsBefore cert (texts_of ls) s') x.here told in
+    go result x.l x.rest at behind b has (take x.l has) moves
   where
-    go : (found : Kind) (l : CertLine) (rest : List CertLine) → IsAt old.is_in_state before c old.state.items old.own.items r.known (l ∷ rest) →
+    line : (found : Kind) (l : CertLine) (rest : List CertLine) → IsAt old.is_in_state before c old.state.items old.own.items r.known (l ∷ rest) →
+        IsBefore cert (behind_header c) (rewound m) → IsBefore cert (texts_of (l ∷ rest)) s' → line_in s' ≡ Some (line_text l) → found ≢ TreeKind →
+        (line_kind l ≢ TreeKind) × TakesLine (line_kind l) (line_text l) (marked old m) new × (new.known.count ≤ 1048576) → MovesOn (Ok found) m s' s'' → StaysInPart cert before c old new s''
+    line found l rest at behind b has ne k moves =
+        read_line cert before c old new s' s'' m l rest r.known t.boxes r.is_known r.few at behind k.0 k.1 k.2 (moves.1 ne cert (line_text l) (texts_of rest) b has)
+
+    go : (result : Result Kind Unjoined) (l : CertLine) (rest : List CertLine) → IsAt old.is_in_state before c old.state.items old.own.items r.known (l ∷ rest) →
         IsBefore cert (behind_header c) (rewound m) → IsBefore cert (texts_of (l ∷ rest)) s' → line_in s' ≡ Some (line_text l) →
-        TakesNext (line_kind l) (line_text l) (marked old m) (Ok (Some found)) new → (found ≡ TreeKind → s'' ≡ rewound m) →
-        ((found ≡ TreeKind → ⊥) → (cert l : List ℕ) (ls : List (List ℕ)) → IsBefore cert (l ∷ ls) s' → line_in s' ≡ Some l → IsBefore cert ls s'') →
-        StaysInPart cert before c old new s'' ⊎ IsPartRead cert before c old new s''
-    go TreeKind l rest at behind b has k back on = inr (read_tree cert before c old new s'' m l rest r.known r.is_known r.few at behind k.0 k.1 (back refl))
-    go LemmaKind l rest at behind b has k back on =
-        inl (read_line cert before c old new s' s'' m l rest r.known t.boxes r.is_known r.few at behind k.0 k.1 k.2 (on lemma_not_tree cert (line_text l) (texts_of rest) b has))
-    go No l rest at behind b has k back on =
-        inl (read_line cert before c old new s' s'' m l rest r.known t.boxes r.is_known r.few at behind k.0 k.1 k.2 (on no_not_tree cert (line_text l) (texts_of rest) b has))
-    go Other l rest at behind b has k back on =
-        inl (read_line cert before c old new s' s'' m l rest r.known t.boxes r.is_known r.few at behind k.0 k.1 k.2 (on other_not_tree cert (line_text l) (texts_of rest) b has))
+        TakesNext (line_kind l) (line_text l) (marked old m) result new → MovesOn result m s' s'' → ReadsNext cert before c old result new s''
+    go (Ok TreeKind) l rest at behind b has k moves = inr (read_tree cert before c old new s'' m l rest r.known r.is_known r.few at behind k.0 k.1 (moves.0 refl))
+    go (Ok LemmaKind) l rest at behind b has k moves = inl (line LemmaKind l rest at behind b has lemma_not_tree k moves)
+    go (Ok No) l rest at behind b has k moves = inl (line No l rest at behind b has no_not_tree k moves)
+    go (Ok Other) l rest at behind b has k moves = inl (line Other l rest at behind b has other_not_tree k moves)
+    go (Err Memory) l rest at behind b has k moves = tt
+    go (Err Unlike) l rest at behind b has k moves = absurd k
+    go (Err Crowded) l rest at behind b has k moves =
+        let x = takes before c (marked old m) new l rest r.known old.is_in_state t.boxes r.is_known r.few k.1 k.0 refl at in
+        many_known new.is_in_state before c new.state.items new.own.items x.known rest x.at (omega (arith, k.2, x.is_known.count))
 
 -- ---- numbers
 
@@ -345,6 +380,20 @@ part_read certs covers before old new spots d s all a h =
       });
     }
 
+-- a lemma of the covers up to one, of which only some lemmas are counted, is one of these covers
+sub_at : (covers : List Cover) (part : ℕ) (c : Cover) (done due : List Lemma) → slice_get covers part ≡ Some c → c.lemmas ≡ done ++ due → (i k : ℕ) (x : Lemma) →
+    IsLemmaAt (take part covers ++ (record c { lemmas = done } ∷ [])) i k x → IsLemmaAt covers i k x
+sub_at [] part c done due e f i k x at = absurd (none_some c e)
+sub_at (d ∷ covers) zero c done due e f zero k x at =
+    let own : record c { lemmas = done } ≡ at.cover = some_same (record c { lemmas = done }) at.cover at.covers_at in
+    let here : slice_get done k ≡ Some x = ap (λ (z : Cover). slice_get z.lemmas k) own ∙ at.lemma_at in
+    record { cover = c; covers_at = e; lemma_at = ap (λ (xs : List Lemma). slice_get xs k) f ∙ get_front done due k x here }
+sub_at (d ∷ covers) zero c done due e f (suc i) k x at = absurd (none_some at.cover at.covers_at)
+sub_at (d ∷ covers) (suc part) c done due e f zero k x at = record { cover = at.cover; covers_at = at.covers_at; lemma_at = at.lemma_at }
+sub_at (d ∷ covers) (suc part) c done due e f (suc i) k x at =
+    let r = sub_at covers part c done due e f i k x (record { cover = at.cover; covers_at = at.covers_at; lemma_at = at.lemma_at }) in
+    record { cover = r.cover; covers_at = r.covers_at; lemma_at = r.lemma_at }
+
 pub numbers_on : (certs : List (List ℕ)) (covers : List Cover) (before : List (List ℕ)) (old : Numbering) (spots : List Spot) (d : Spot) (r : Result Step Unjoined) (new : Numbering) (s : Spot) →
     AllHaveNumbers [] (lists_of old) (take old.part covers) before → (a : IsTurn certs covers before old spots d) → ReadsPart a.cert before a.cover old r new s →
     ReadsLemmas certs covers r new (slice_set spots old.part s)
@@ -353,7 +402,12 @@ numbers_on certs covers before old spots d (Ok (Read part)) new s all a (inl h) 
 numbers_on certs covers before old spots d (Ok (Read part)) new s all a (inr h) = part_read certs covers before old new spots d s all a h
 numbers_on certs covers before old spots d (Ok On) new s all a (inl h) = stays_on certs covers before old new spots d s all a h
 numbers_on certs covers before old spots d (Ok On) new s all a (inr h) = part_read certs covers before old new spots d s all a h
-numbers_on certs covers before old spots d (Err e) new s all a h = tt
+numbers_on certs covers before old spots d (Err Memory) new s all a h = tt
+numbers_on certs covers before old spots d (Err Unlike) new s all a h = absurd h
+numbers_on certs covers before old spots d (Err Crowded) new s all a h =
+    are_crowded (lists_of old ++ (h.own ∷ [])) (take old.part covers ++ (record a.cover { lemmas = h.done } ∷ [])) covers h.known
+    (sub_at covers old.part a.cover h.done h.due a.covers_at h.lemmas)
+    (all_more [] before h.known (lists_of old) (take old.part covers) h.own (record a.cover { lemmas = h.done }) all h.numbers) h.many
 
 -- ---- the end
 

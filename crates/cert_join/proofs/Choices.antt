@@ -1,5 +1,5 @@
 -- Which of the trees of one place is taken, and the steps from one tree to the next.
-use Rattle.std.proofs.Common.{◌≡◌, ◌≢◌, ◌<◌, ◌≤◌, ◌+◌, ◌-◌, ◌^◌, ℕ, List, [], ◌∷◌, ◌++◌, Bool, true, false, not, ◌&&◌, cond, Option, Some, None, Result, Ok, Err, MatchOption, length, map, min, drop, get_or, slice_set, refl, ap, sym, ◌∙◌, subst, ⊎_elim, arith}
+use Rattle.std.proofs.Common.{◌≡◌, ◌≢◌, ◌<◌, ◌≤◌, ◌+◌, ◌-◌, ◌^◌, ℕ, List, [], ◌∷◌, ◌++◌, Bool, true, false, not, ◌&&◌, cond, Option, Some, None, MatchOption, length, map, min, drop, get_or, slice_set, refl, ap, sym, ◌∙◌, subst, ⊎_elim, arith}
 use Rattle.std.specs.List.{AllByRecursion, slice_get}
 use Rattle.std.proofs.lemmas.Option.{slice_get_read, slice_get_within}
 use Rattle.cover_model.specs.Derivation.{Tree}
@@ -7,7 +7,6 @@ use Rattle.cert_joined.specs.Joined.{closes, first_closed}
 use Rattle.cert_join.specs.declared.cursor.Mark.{Mark}
 use Rattle.cert_join.specs.declared.joiner.Step.{Step}
 use Rattle.cert_join.specs.declared.joiner.Step.TheVariants.{Read, On, Over}
-use Rattle.cert_join.specs.declared.stop.Unjoined.{Unjoined}
 use Rattle.cert_join.specs.declared.weighing.Weighing.{Weighing}
 use Rattle.cert_join.specs.Ahead.{AreBefore}
 use Rattle.cert_join.specs.Spot.{Spot, IsBefore}
@@ -106,14 +105,13 @@ module _ (certs : List (List ℕ)) (taken : Branch) (end : List (List (List ℕ)
         choosing = chosen_on certs taken b more v.leaves v.first v.closed m (subst (λ (x : Weighing). IsChoosing certs taken (b ∷ more) x.first x.closed) (sym same) choosing) mark closed;
       }
 
-  stepped : (new : Weighing) (s : Spot) (r : Result Step Unjoined) → length w.parts.items ≤ 2 ^ 64 - 1 → IsGone (cert_of certs b) b w new s r
+  stepped : (new : Weighing) (s : Spot) (r : Step) → length w.parts.items ≤ 2 ^ 64 - 1 → IsGone (cert_of certs b) b w new s r
       → IsWeighStep certs taken end new (slice_set spots b.part s) r
-  stepped new s (Err e) few h = absurd h
-  stepped new s (Ok Over) few h = absurd h
-  stepped new s (Ok On) few h =
+  stepped new s Over few h = absurd h
+  stepped new s On few h =
       ⊎_elim (λ g. goes new s g.0 g.1 g.2 g.3)
       (λ g. subst (λ (x : Weighing). IsWeighing certs taken end x (slice_set spots b.part s)) (sym g.5) (goes_behind s g.0 g.1 few g.2 g.3 g.4 g.6)) h
-  stepped new s (Ok (Read part)) few h =
+  stepped new s (Read part) few h =
       ⊎_elim (λ g. goes new s g.0 g.1 g.2 g.3)
       (λ g. subst (λ (x : Weighing). IsWeighing certs taken end x (slice_set spots b.part s)) (sym g.5) (goes_behind s g.0 g.1 few g.2 g.3 g.4 g.6)) h
 
@@ -148,7 +146,7 @@ is_there certs taken end w spots part h lt is past = by_due h.due h.before h.par
       absurd (omega (arith, past, next_part w b (map (λ (c : Branch). c.part) more) part parts lt is, slice_get_within spots b.part t.0 t.1))
 
 -- its cursor takes a step
-pub weigh_on : (certs : List (List ℕ)) (taken : Branch) (end : List (List (List ℕ))) (w new : Weighing) (spots : List Spot) (part : ℕ) (s s' : Spot) (r : Result Step Unjoined)
+pub weigh_on : (certs : List (List ℕ)) (taken : Branch) (end : List (List (List ℕ))) (w new : Weighing) (spots : List Spot) (part : ℕ) (s s' : Spot) (r : Step)
     → IsWeighing certs taken end w spots → w.place < length w.parts.items → length w.parts.items ≤ 2 ^ 64 - 1 → part ≡ get_or w.parts.items w.place part → part < length spots
     → s ≡ get_or spots part s
     → ((cert : List ℕ) (b : Branch) (left : List Tree) → part ≡ b.part → IsWithin cert b left w → IsBefore cert (forest_texts left ++ b.behind) s → IsGone cert b w new s' r)

@@ -9,8 +9,9 @@ use Rattle.cert_joined.specs.Joined.{first_line}
 use Rattle.cert_joined.specs.Covers.{arity, IsShaped}
 use Rattle.cert_join.specs.Kinds.{rule_text}
 use Rattle.cert_join.specs.Spot.{Spot, IsBefore, IsReady}
-use Rattle.cert_join.specs.Gathered.{spot_at, is_in, AreDistinct, Stand, AllReady, AllThere, PassedIf, ArePassed, Meeting, parts_of, does_leave, going, leaving, AreNext}
+use Rattle.cert_join.specs.Gathered.{spot_at, is_in, AreDistinct, Stand, AllReady, AreThere, PassedIf, ArePassed, Meeting, parts_of, does_leave, going, leaving, AreNext}
 use Rattle.cert_join.specs.Due.{rule_texts, AreTreesOf, due_behind, lines_at, lines_due, IsMeeting, Yields, Course, IsWhole, IsDue, IsDueBehind, IsHere, AllGo, AllLeave}
+use Rattle.cert_join.proofs.Passing.{there_moved}
 use Rattle.cert_join.proofs.Meetings.{stand_passed, ahead_before, next_known, AllShaped, AllSpelled, ahead_going, cut_first, first_spelled, lines_behind, none_leaving, not_there, or_parts}
 use Rattle.cert_join.proofs.Yielding.{yields_going, yields_one, all_go, all_leave}
 
@@ -46,10 +47,10 @@ module _ (cert : ℕ → List ℕ) (ahead : ℕ → List (List ℕ)) (s : List S
   )
 
 -- the trees that are due at the first place, whose lines are ready
-make-here : (k : Course) (now : List ℕ) (parts : List (List ℕ)) (text : List ℕ) (s : List Spot) (first : ℕ × Tree) (others : Meeting) (due : List Meeting) → parts_of (first ∷ others) ≡ now → map parts_of due ≡ parts →
+make-here : (k : Course) (now : List ℕ) (parts : List (List ℕ)) (text : List ℕ) (s : List Spot) (first : ℕ × Tree) (others : Meeting) (due : List Meeting) → parts_of (first ∷ others) ≡ now → map parts_of due ≡ parts → AreThere (now ∷ parts) s →
     IsMeeting (first ∷ others) → AllByRecursion IsMeeting due → AllReady now s → Stand k.cert (λ i. lines_due i ((first ∷ others) ∷ due) ++ k.rest i) s →
     ((out : List ℕ) → Yields k.numbers ((first ∷ others) ∷ due) out → IsWhole k (text ++ out)) → IsHere k now parts text s
-make-here k now parts text s first others due here places met good ready stand whole =
+make-here k now parts text s first others due here places there met good ready stand whole =
     let P : List ℕ → Type 0 = λ z. AllReady z s in
     record {
       first = first;
@@ -57,6 +58,7 @@ make-here k now parts text s first others due here places met good ready stand w
       due = due;
       here = here;
       places = places;
+      there = there;
       met = met;
       good = good;
       ready = ready;
@@ -66,17 +68,17 @@ make-here k now parts text s first others due here places met good ready stand w
           (λ i q. (lines_due i due ++ k.rest i, append_assoc (lines_at i (first ∷ others)) (lines_due i due) (k.rest i))) (subst P (sym here) ready);
     }
 
-open-due : (k : Course) (now : List ℕ) (parts : List (List ℕ)) (text : List ℕ) (s : List Spot) (due : List Meeting) → map parts_of due ≡ now ∷ parts → AllByRecursion IsMeeting due → AllReady now s →
+open-due : (k : Course) (now : List ℕ) (parts : List (List ℕ)) (text : List ℕ) (s : List Spot) (due : List Meeting) → map parts_of due ≡ now ∷ parts → AreThere (now ∷ parts) s → AllByRecursion IsMeeting due → AllReady now s →
     Stand k.cert (λ i. lines_due i due ++ k.rest i) s → ((out : List ℕ) → Yields k.numbers due out → IsWhole k (text ++ out)) → IsHere k now parts text s
-open-due k now parts text s [] places good ready stand whole = cc
-open-due k now parts text s ([] ∷ due) places good ready stand whole = absurd (omega (arith, good.0.some))
-open-due k now parts text s ((x ∷ place) ∷ due) places good ready stand whole =
+open-due k now parts text s [] places there good ready stand whole = cc
+open-due k now parts text s ([] ∷ due) places there good ready stand whole = absurd (omega (arith, good.0.some))
+open-due k now parts text s ((x ∷ place) ∷ due) places there good ready stand whole =
     let e : parts_of (x ∷ place) ≡ now = cc in
     let f : map parts_of due ≡ parts = cc in
-    make-here k now parts text s x place due e f good.0 good.1 ready stand whole
+    make-here k now parts text s x place due e f there good.0 good.1 ready stand whole
 
 pub here_due : (k : Course) (now : List ℕ) (parts : List (List ℕ)) (text : List ℕ) (s : List Spot) → IsDue k (now ∷ parts) text s → AllReady now s → IsHere k now parts text s
-here_due k now parts text s d ready = open-due k now parts text s d.due d.places d.good ready d.stand d.whole
+here_due k now parts text s d ready = open-due k now parts text s d.due d.places d.there d.good ready d.stand d.whole
 
 -- ---- those that go on
 
@@ -152,8 +154,11 @@ module _ (k : Course) (now : List ℕ) (parts : List (List ℕ)) (text : List �
       let R : Meeting → Type 0 = λ z. AllReady (parts_of z) t in
       let S : Meeting → Type 0 = λ z. Stand k.cert (λ i. lines_due i (z ∷ h.due) ++ k.rest i) t in
       let G : Meeting → Type 0 = λ z. AllGo z in
+      let T : Meeting → Type 0 = λ z. AreThere (parts_of z ∷ parts) t in
       let Y : Meeting → Type 0 = λ z. (out : List ℕ) → Yields k.numbers (z ∷ h.due) out → IsWhole k (text ++ out) in
       let some' : 0 < length (going whole) = omega (arith, ap length e) in
+      let there : AreThere (parts_of (going whole) ∷ parts) t =
+      there_moved (parts_of (going whole) ∷ parts) s t passed.count ((λ i q. h.there.0 i (ap (is_in i) (sym h.here) ∙ gone-in i whole q)), h.there.1) in
       let met : IsMeeting (going whole) = record {
         some = some';
         distinct = distinct-going whole h.met.distinct;
@@ -164,7 +169,7 @@ module _ (k : Course) (now : List ℕ) (parts : List (List ℕ)) (text : List �
       stand_passed k.cert (λ i. lines_due i (whole ∷ h.due) ++ k.rest i) (λ i. lines_due i (going whole ∷ h.due) ++ k.rest i) (parts_of (leaving whole)) s t
       (λ i. ahead_before _ _ _ _ _ (ahead_going i whole h.met.distinct h.met.shaped h.met.spelled)) h.stand
       (λ i n q. elim (cases_Bool (is_in i (parts_of whole))) [ inl f ↦ h.ready i n (ap (is_in i) (sym h.here) ∙ f) | inr f ↦ absurd (both_ways _ (none_leaving i whole f) q) ]) passed in (
-        make-here k (parts_of (y ∷ more)) parts text t y more h.due refl h.places (subst M e met) h.good (subst R e (still-ready passed)) (subst S e stand)
+        make-here k (parts_of (y ∷ more)) parts text t y more h.due refl h.places (subst T e there) (subst M e met) h.good (subst R e (still-ready passed)) (subst S e stand)
             (subst Y e (λ out z. h.whole out (yields_going k.numbers whole h.due out h.met.shaped (all-going _ whole h.met.shaped) z))),
         subst G e (all_go whole),
       )
@@ -177,14 +182,6 @@ module _ (k : Course) (now : List ℕ) (parts : List (List ℕ)) (text : List �
       let Q : List ℕ → Type 0 = λ z. (n : IsHere k z parts text t) × AllGo (n.first ∷ n.others) in
       let some' : 0 < length (going whole) = omega (arith, ap length e, length-map {A = ℕ × Tree} {B = ℕ} (going whole) (λ (x : ℕ × Tree). x.0)) in
       subst Q (sym e) (here-going (going whole) refl some' (subst P f passed (distinct-leaving whole h.met.distinct)))
-
-  pub going_there : (grown left : List ℕ) → grown ≡ parts_of (going (h.first ∷ h.others)) → left ≡ parts_of (leaving (h.first ∷ h.others)) → (AreDistinct left → ArePassed left s t) → AllThere now s → AllThere grown t
-  going_there grown left e f passed there i q =
-      let whole : Meeting = h.first ∷ h.others in
-      let P : List ℕ → Type 0 = λ z. AreDistinct z → ArePassed z s t in
-      let c = subst P f passed (distinct-leaving whole h.met.distinct) in
-      let n : i < length s = there i (ap (is_in i) (sym h.here) ∙ gone-in i whole (ap (is_in i) (sym e) ∙ q)) in
-      omega (arith, c.count)
 
   -- none goes on
   pub leaving_here : (grown : List ℕ) → grown ≡ parts_of (going (h.first ∷ h.others)) → length grown ≡ 0 → AllLeave (h.first ∷ h.others)
@@ -210,16 +207,17 @@ trees-more (fork l t u) ls n s h =
 pub one_tree : (t : Tree) → IsShaped t → AreTreesOf (tree_lines t) 1
 one_tree t s = let Q : List Line → Type 0 = λ z. AreTreesOf z 1 in subst Q (append-nil (tree_lines t)) (trees-more t [] 0 s refl)
 
-one-state : (k : Course) (parts : List (List ℕ)) (text : List ℕ) (s : List Spot) (x : ℕ × Tree) (others : Meeting) (due : List Meeting) → length (parts_of (x ∷ others)) ≡ 1 → map parts_of due ≡ parts →
+one-state : (k : Course) (parts : List (List ℕ)) (text : List ℕ) (s : List Spot) (x : ℕ × Tree) (others : Meeting) (due : List Meeting) → length (parts_of (x ∷ others)) ≡ 1 → map parts_of due ≡ parts → AreThere (parts_of (x ∷ others) ∷ parts) s →
     IsMeeting (x ∷ others) → AllByRecursion IsMeeting due → AllGo (x ∷ others) → Stand k.cert (λ i. lines_due i ((x ∷ others) ∷ due) ++ k.rest i) s →
     ((out : List ℕ) → Yields k.numbers ((x ∷ others) ∷ due) out → IsWhole k (text ++ out)) → IsDueBehind k x.0 1 parts text s
-one-state k parts text s x (y ∷ others) due one places met good go stand whole = absurd (omega arith)
-one-state k parts text s x [] due one places met good go stand whole = record {
+one-state k parts text s x (y ∷ others) due one places there met good go stand whole = absurd (omega arith)
+one-state k parts text s x [] due one places there met good go stand whole = record {
   lines = tree_lines x.1;
   trees = one_tree x.1 met.shaped.0;
   spelled = met.spelled.0;
   due = due;
   places = places;
+  there = there;
   good = good;
   stand = λ i n. let P : List (List ℕ) → Type 0 = λ z. IsBefore (k.cert i) z (spot_at s i) in
       subst P (append_assoc (lines_at i (x ∷ [])) (lines_due i due) (k.rest i)) (stand i n);
@@ -230,4 +228,5 @@ pub one_here : (k : Course) (now : List ℕ) (parts : List (List ℕ)) (text : L
     IsDueBehind k part 1 parts text s
 one_here k now parts text s part h e go one =
     let P : ℕ → Type 0 = λ j. IsDueBehind k j 1 parts text s in
-    subst P (sym e) (one-state k parts text s h.first h.others h.due (ap length h.here ∙ one) h.places h.met h.good go h.stand h.whole)
+    let T : List ℕ → Type 0 = λ z. AreThere (z ∷ parts) s in
+    subst P (sym e) (one-state k parts text s h.first h.others h.due (ap length h.here ∙ one) h.places (subst T (sym h.here) h.there) h.met h.good go h.stand h.whole)

@@ -1,5 +1,5 @@
 -- One more line of a certificate's tree is copied.
-use Rattle.std.proofs.Common.{◌≡◌, ◌<◌, ◌≤◌, ℕ, suc, ◌-◌, ◌^◌, List, [], ◌∷◌, ◌++◌, length, Bool, true, false, cond, Option, Some, Ok, refl, sym, ap, subst, ◌∙◌, append_assoc, arith, nat_eq, drop, length-append, length-drop}
+use Rattle.std.proofs.Common.{◌≡◌, ◌<◌, ◌≤◌, ℕ, suc, ◌-◌, ◌^◌, List, [], ◌∷◌, ◌++◌, length, Bool, true, false, cond, refl, sym, ap, subst, ◌∙◌, append_assoc, arith, nat_eq, drop, length-append, length-drop}
 use Rattle.std.proofs.lemmas.List.{length-map}
 use Rattle.cover_model.specs.Rules.{Line}
 use Rattle.cert_read.specs.CertLine.{CertLine, rule_line}
@@ -7,11 +7,13 @@ use Rattle.cert_read.specs.LineText.{IsSpelled, line_text}
 use Rattle.cert_read.specs.Lines.{split_at, onto_first, without_last_empty, lines_of}
 use Rattle.cert_joined.specs.Covers.{Arity, ends, goes_on, splits, arity, line_by, numbered}
 use Rattle.cert_join.specs.declared.line.Left.{Left}
-use Rattle.cert_join.specs.declared.line.Left.TheVariants.{Nothing, One, Two, Open, Stuck}
+use Rattle.cert_join.specs.declared.line.Left.TheVariants.{Nothing, One, Two, Open, Stuck, Unknown}
 use Rattle.cert_join.specs.Kinds.{rule_text, left_kind, arity_of, waiting_behind, IsRenumbered}
-use Rattle.cert_join.specs.Spot.{Spot, start, IsBefore, IsFirst, IsReady, line_in}
+use Rattle.cert_join.specs.Spot.{Spot, start, IsBefore, IsReady, text_in}
 use Rattle.cert_join.specs.Due.{due_behind, AreTreesOf, AreSpelled, rule_texts, text_by, IsCopying}
+use Rattle.cert_join.specs.Gathered.{Passed}
 use Rattle.cert_join.proofs.Below.{arity_left}
+use Rattle.cert_join.proofs.Spots.{ready_text}
 
 -- ---- how many lines there are
 
@@ -62,20 +64,13 @@ behind-same One n m h h' = refl
 behind-same Two n m h h' = omega arith
 behind-same Open n m h h' = refl
 behind-same Stuck n m h h' = refl
+behind-same Unknown n m h h' = refl
 
 -- how long the next line is does not tell where the place stands
 pub resized : (cert : List ℕ) (ls : List (List ℕ)) (s t : Spot) → t ≡ record s { size = t.size } → IsBefore cert ls s → IsBefore cert ls t
 resized cert ls s t e b =
     let P : Spot → Type 0 = λ x. IsBefore cert ls x in
-    subst P (sym e) (record { few = b.few; within = b.within; reached = b.reached; held = b.held; ended = b.ended; lines = b.lines })
-
--- the line that is known is the first
-pub line_known : (cert l line : List ℕ) (ls : List (List ℕ)) (s : Spot) → IsBefore cert (l ∷ ls) s → IsReady s → line_in s ≡ Some line → line ≡ l
-line_known cert l line ls s b ready e = let P : Option (List ℕ) → Type 0 = λ o. IsFirst (l ∷ ls) o in let f = subst P e (ready _ _ b) in let g : l ∷ ls ≡ line ∷ f.0 = f.1 in cc
-
--- the first of these lines leaves this
-first-left : (k : Left) (l : Line) (line : List ℕ) → line ≡ rule_text l → ((r : Line) → line ≡ rule_text r → Some k ≡ Some (left_kind r)) → k ≡ left_kind l
-first-left k l line e f = let g : Some k ≡ Some (left_kind l) = f l e in cc
+    subst P (sym e) (record { few = b.few; within = b.within; reached = b.reached; held = b.held; ended = b.ended; lines = b.lines; short = b.short })
 
 waits : (k : Left) (l : Line) (n : ℕ) (ls : List Line) → k ≡ left_kind l → length ls ≤ 2 ^ 64 - 1 → AreTreesOf ls (due_behind (arity l) n) → AreTreesOf ls (waiting_behind k n)
 waits k l n ls e few trees =
@@ -89,38 +84,35 @@ waits k l n ls e few trees =
 no-lines : {A : Type 0} (n : ℕ) → 0 < n → n ≡ 0 → A
 no-lines n h e = absurd (omega arith)
 
-abbrev pub Taken : List ℕ → List ℕ → List ℕ → List ℕ → Bool → Type 0
-Taken numbers line text after b = (r : CertLine) → line ≡ line_text r → IsSpelled r → IsRenumbered numbers r text after (Ok b)
-
-abbrev pub Passed : Spot → Spot → Type 0
-Passed s t = (cert l : List ℕ) (ls : List (List ℕ)) → IsBefore cert (l ∷ ls) s → line_in s ≡ Some l → IsBefore cert ls t
+abbrev pub Taken : List ℕ → List ℕ → List ℕ → List ℕ → Type 0
+Taken numbers line text after = (r : CertLine) → line ≡ line_text r → IsSpelled r → IsRenumbered numbers r text after
 
 module _ (cert numbers : List ℕ) (rest : List (List ℕ)) (whole : List ℕ) (n : ℕ) (text : List ℕ) (s t u : Spot) (line : List ℕ) (k : Left) (after : List ℕ) where
   copied : (ls : List Line) → AreTreesOf ls n → AreSpelled ls → IsBefore cert (rule_texts ls ++ rest) s → whole ≡ text ++ text_by numbers ls →
-      0 < n → t ≡ record s { size = t.size } → IsReady t → line_in t ≡ Some line →
-      ((r : Line) → line ≡ rule_text r → Some k ≡ Some (left_kind r)) → Taken numbers line text after true → Passed t u →
+      0 < n → t ≡ record s { size = t.size } → IsReady t → line ≡ text_in t →
+      ((r : Line) → line ≡ rule_text r → k ≡ left_kind r) → Taken numbers line text after → Passed t u →
       IsCopying cert numbers rest whole (waiting_behind k n) (after ++ (10 ∷ [])) u
   copied [] trees spelled before whole-is some same ready line-is left taken passed = no-lines n some trees
   copied (l ∷ ls) trees spelled before whole-is some same ready line-is left taken passed =
       let b : IsBefore cert (rule_text l ∷ (rule_texts ls ++ rest)) t = resized cert _ s t same before in
-      let e : line ≡ rule_text l = line_known cert (rule_text l) line _ t b ready line-is in
+      let first = ready_text cert (rule_text l) _ t b ready in
+      let e : line ≡ rule_text l = line-is ∙ first.0 in
       let few : length (rule_text l ∷ (rule_texts ls ++ rest)) ≤ 2 ^ 64 = few_lines cert _ t b in
       let fewer : length ls ≤ 2 ^ 64 - 1 = omega (arith, length-map {A = Line} {B = List ℕ} ls rule_text, length-append (rule_texts ls) rest) in
-      let app : after ≡ text ++ rule_text (line_by (numbered numbers) l) = (taken (rule_line l) e spelled.0).0 in
+      let app : after ≡ text ++ rule_text (line_by (numbered numbers) l) = taken (rule_line l) e spelled.0 in
       let own : List ℕ = rule_text (line_by (numbered numbers) l) in
       record {
         lines = ls;
-        trees = waits k l n ls (first-left k l line e left) fewer trees.1;
+        trees = waits k l n ls (left l e) fewer trees.1;
         spelled = spelled.1;
-        before = passed cert (rule_text l) _ b (line-is ∙ ap (λ x. Some x) e);
+        before = passed cert (rule_text l) _ b first.1;
         adds_up = whole-is ∙ sym (ap (λ x. (x ++ (10 ∷ [])) ++ text_by numbers ls) app ∙ append_assoc (text ++ own) (10 ∷ []) (text_by numbers ls) ∙ append_assoc text own (10 ∷ text_by numbers ls));
       }
 
-  pub line_copied : (b : Bool) (w : ℕ) (text' : List ℕ) → 0 < n → IsCopying cert numbers rest whole n text s → t ≡ record s { size = t.size } → IsReady t → Some line ≡ line_in t →
-      ((r : Line) → line ≡ rule_text r → Some k ≡ Some (left_kind r)) → Taken numbers line text after b → b ≡ true → Passed t u →
+  pub line_copied : (w : ℕ) (text' : List ℕ) → 0 < n → IsCopying cert numbers rest whole n text s → t ≡ record s { size = t.size } → IsReady t → line ≡ text_in t →
+      ((r : Line) → line ≡ rule_text r → k ≡ left_kind r) → Taken numbers line text after → Passed t u →
       w ≡ waiting_behind k n → text' ≡ after ++ (10 ∷ []) → IsCopying cert numbers rest whole w text' u
-  line_copied b w text' some d same ready line-is left taken is passed w-is text-is =
-      let P : Bool → Type 0 = λ x. Taken numbers line text after x in
+  line_copied w text' some d same ready line-is left taken passed w-is text-is =
       let Q : ℕ → Type 0 = λ x. IsCopying cert numbers rest whole x text' u in
       let R : List ℕ → Type 0 = λ x. IsCopying cert numbers rest whole (waiting_behind k n) x u in
-      subst Q (sym w-is) (subst R (sym text-is) (copied d.lines d.trees d.spelled d.before d.adds_up some same ready (sym line-is) left (subst P is taken) passed))
+      subst Q (sym w-is) (subst R (sym text-is) (copied d.lines d.trees d.spelled d.before d.adds_up some same ready line-is left taken passed))

@@ -1,5 +1,5 @@
 -- Trees at one place with different first lines, of which one is chosen.
-use Rattle.std.proofs.Common.{◌≡◌, ◌≢◌, ◌<◌, ℕ, suc, zero, List, [], ◌∷◌, ◌++◌, length, map, get_or, set, Bool, true, false, cond, not, ◌&&◌, ◌||◌, Some, nat_eq, inl, inr, refl, sym, ap, subst, ◌∙◌, arith, append_assoc, length-set}
+use Rattle.std.proofs.Common.{◌≡◌, ◌≢◌, ◌<◌, ◌≤◌, ℕ, suc, zero, List, [], ◌∷◌, ◌++◌, length, map, get_or, set, Bool, true, false, cond, not, ◌&&◌, ◌||◌, Some, nat_eq, inl, inr, refl, sym, ap, subst, ◌∙◌, arith, append_assoc, length-set}
 use Rattle.std.specs.Prelude.{slice_get}
 use Rattle.std.specs.List.{AllByRecursion}
 use Rattle.std.proofs.lemmas.Bool.{both_ways, ne_eqb, eq-eqb, eqb-true, cases_eq, cases_Bool}
@@ -16,12 +16,12 @@ use Rattle.cert_join.specs.Ahead.{AreBefore}
 use Rattle.cert_join.specs.Spot.{Spot, IsBefore, rewound}
 use Rattle.cert_join.specs.Written.{texts_of}
 use Rattle.cert_join.specs.Weighed.{Branch, ahead_of, AreAhead, AreApart, passed, first_closing, IsWeighing, IsWeighed, IsMarked}
-use Rattle.cert_join.specs.Gathered.{spot_at, is_in, AreDistinct, Stand, Meeting, parts_of, numbers_at, AreAlike}
+use Rattle.cert_join.specs.Gathered.{spot_at, is_in, AreDistinct, AreThere, Stand, Meeting, parts_of, numbers_at, AreAlike}
 use Rattle.cert_join.specs.Due.{rule_texts, AreSpelled, text_by, tree_text, lines_at, lines_due, trees_at, Yields, Course, IsWhole, IsDueBehind, IsDueWeighed, IsHere, AllGo}
 use Rattle.cert_join.proofs.Choices.{holds_of_taken, passed_at, passed_other}
 use Rattle.cert_join.proofs.Meetings.{AllShaped, AllSpelled, or_parts}
 use Rattle.cert_join.proofs.Yielding.{leaves_by, trees_going, going_same, tree_text_by}
-use Rattle.cert_join.proofs.Passing.{spot_same, spot_other}
+use Rattle.cert_join.proofs.Passing.{one_below, one_there, spot_same, spot_other, there_moved}
 use Rattle.cert_join.proofs.Comparing.{one_tree}
 
 -- ---- lines by the two ways to write them
@@ -195,7 +195,6 @@ there-of behind n place h = h
 -- ---- a tree is chosen among those of one place
 
 module _ (k : Course) (now : List ℕ) (parts : List (List ℕ)) (text : List ℕ) (s : List Spot) (w : Weighing) (h : IsHere k now parts text s) (go : AllGo (h.first ∷ h.others)) (unlike : AreAlike k.numbers h.first h.others → ⊥)
-    (there : (i : ℕ) → is_in i now ≡ true → i < length s)
     (new : (certs : List (List ℕ)) (lines : List (List (List ℕ))) (spots : List Spot) (b : Branch) (more : List Branch) → now ≡ map (λ (c : Branch). c.part) (b ∷ more) → AreBefore certs lines spots → AreAhead lines (b ∷ more) → AreApart (b ∷ more) →
     IsWeighing certs (first_closing b (b ∷ more)) (passed (b ∷ more) lines) w spots) where
   behind : ℕ → List (List ℕ)
@@ -208,7 +207,7 @@ module _ (k : Course) (now : List ℕ) (parts : List (List ℕ)) (text : List �
   lines-now = tabulate ahead (length s)
 
   there-now : (i : ℕ) → is_in i (parts_of (h.first ∷ h.others)) ≡ true → i < length s
-  there-now i q = there i (ap (is_in i) (sym h.here) ∙ q)
+  there-now i q = h.there.0 i (ap (is_in i) (sym h.here) ∙ q)
 
   line-at : (i : ℕ) → i < length s → slice_get lines-now i ≡ Some (lines_at i (h.first ∷ h.others) ++ behind i)
   unfolding lines-now ahead behind
@@ -266,8 +265,8 @@ module _ (k : Course) (now : List ℕ) (parts : List (List ℕ)) (text : List �
     behind = of-taken (λ (b : Branch). b.behind ≡ behind b.part) (all-refl behind (h.first ∷ h.others));
     shaped = of-taken (λ (b : Branch). IsShaped b.tree) (shaped-of behind (h.first ∷ h.others) h.met.shaped);
     spelled = of-taken (λ (b : Branch). AreSpelled (tree_lines b.tree)) (spelled-of behind (h.first ∷ h.others) h.met.spelled);
-    there = of-taken (λ (b : Branch). b.part < length s) (there-of behind (length s) (h.first ∷ h.others) (all-there behind (length s) (h.first ∷ h.others) there-now));
     places = h.places;
+    there = (one_there one-taken.part s (of-taken (λ (b : Branch). b.part < length s) (there-of behind (length s) (h.first ∷ h.others) (all-there behind (length s) (h.first ∷ h.others) there-now))), h.there.1);
     good = h.good;
     whole = whole-now;
   }
@@ -287,11 +286,15 @@ weighed_on k w w' parts text s t d e weighing = record {
   behind = d.behind;
   shaped = d.shaped;
   spelled = d.spelled;
-  there = let m : d.taken.part < length s = d.there in omega arith;
   places = d.places;
+  there = there_moved ((d.taken.part ∷ []) ∷ parts) s t e d.there;
   good = d.good;
   whole = d.whole;
 }
+
+-- the certificate of the one that is taken is there
+pub weighed_there : (k : Course) (w : Weighing) (parts : List (List ℕ)) (text : List ℕ) (s t : List Spot) (part : ℕ) (m : Mark) → (d : IsDueWeighed k w parts text s) → length t ≡ length s → IsMarked d.certs d.taken (part, m) → length t ≤ part → ⊥
+weighed_there k w parts text s t part m d e marked past = let q : d.taken.part < length s = one_below d.taken.part s d.there.0 in absurd (omega (arith, q, marked.0, past))
 
 -- all were, and the certificate of the one that is taken stands before it again
 pub weighed_over : (k : Course) (w w' : Weighing) (parts : List (List ℕ)) (text : List ℕ) (s t : List Spot) (part : ℕ) (m : Mark) → (d : IsDueWeighed k w parts text s) → length t ≡ length s → IsWeighed d.certs d.taken d.ends w' t → IsMarked d.certs d.taken (part, m) →
@@ -300,10 +303,11 @@ weighed_over k w w' parts text s t part m d e all marked =
     let p : ℕ = d.taken.part in
     let ls : List Line = tree_lines d.taken.tree in
     let B : Bool → ℕ → Spot → Type 0 = λ b i x. IsBefore (k.cert i) (cond b (rule_texts ls) [] ++ (lines_due i d.due ++ k.rest i)) x in
-    let n : p < length t = let q : p < length s = d.there in omega arith in
+    let q : p < length s = one_below p s d.there.0 in
+    let n : p < length t = omega arith in
     let C : List ℕ → Type 0 = λ z. IsBefore z (ahead_of d.taken) (rewound m) in
     let D : List (List ℕ) → Type 0 = λ z. IsBefore (k.cert p) z (rewound m) in
-    let here : B true p (rewound m) = subst D (ap (λ z. z ++ d.taken.behind) (texts_same ls) ∙ ap (λ z. rule_texts ls ++ z) d.behind) (subst C (d.certs_are p d.there) marked.1) in
+    let here : B true p (rewound m) = subst D (ap (λ z. z ++ d.taken.behind) (texts_same ls) ∙ ap (λ z. rule_texts ls ++ z) d.behind) (subst C (d.certs_are p q) marked.1) in
     let stand : Stand k.cert (λ i. cond (nat_eq i p) (rule_texts ls) [] ++ (lines_due i d.due ++ k.rest i)) (set t p (rewound m)) = λ i l. elim (cases_eq i p) [
       | inl q ↦ let R : ℕ → Type 0 = λ j. B (nat_eq j p) j (spot_at (set t p (rewound m)) j) in
           let Q : Bool → Type 0 = λ b. B b p (spot_at (set t p (rewound m)) p) in
@@ -318,5 +322,6 @@ weighed_over k w w' parts text s t part m d e all marked =
           let F : List (List ℕ) → Type 0 = λ z. IsBefore (get_or d.certs i []) z (spot_at t i) in
           subst Q (sym (ne_eqb i p ne)) (subst S (sym (spot_other t p i (rewound m) ne)) (subst E (d.certs_are i l'') (subst F (d.ends_are i l'') (before-at d.certs d.ends t i l' all.before))))
     ] in
+    let there-now : AreThere ((p ∷ []) ∷ parts) (set t p (rewound m)) = there_moved ((p ∷ []) ∷ parts) s (set t p (rewound m)) (length-set t p (rewound m) ∙ e) d.there in
     let P : ℕ → Type 0 = λ j. IsDueBehind k j 1 parts text (set t j (rewound m)) in
-    subst P (sym marked.0) (record { lines = ls; trees = one_tree d.taken.tree d.shaped; spelled = d.spelled; due = d.due; places = d.places; good = d.good; stand = stand; whole = d.whole })
+    subst P (sym marked.0) (record { lines = ls; trees = one_tree d.taken.tree d.shaped; spelled = d.spelled; due = d.due; places = d.places; there = there-now; good = d.good; stand = stand; whole = d.whole })

@@ -3,7 +3,11 @@ use Rattle.std.proofs.Common.{◌≡◌, ◌<◌, inl, inr, ℕ, zero, suc, List
 use Rattle.std.proofs.lemmas.Bool.{cases_eq}
 use Rattle.std.proofs.lemmas.Option.{get_or_from_slice_get}
 use Rattle.std.specs.List.{slice_get}
-use Rattle.cert_joined.specs.Covers.{Cover, AreTextsOf}
+use Rattle.std.specs.List.{AllByRecursion}
+use Rattle.cert_read.specs.CertLine.{CertLine}
+use Rattle.cert_read.specs.LineText.{IsSpelled}
+use Rattle.cert_joined.specs.Covers.{Cover, AreTextsOf, cover_lines}
+use Rattle.cert_join.specs.Written.{texts_of}
 use Rattle.std.specs.declared.alloc.AllocError.{AllocError}
 use Rattle.cert_join.specs.declared.heads.Heads.{Heads as HeadsRead}
 use Rattle.cert_join.specs.declared.joiner.Joiner.{Joiner}
@@ -22,16 +26,21 @@ use Rattle.cert_join.specs.Heads.{IsReading, all_lines}
 use Rattle.cert_join.specs.Joining.{IsAt, IsJoining, IsPiece}
 use Rattle.cert_join.specs.LemmasDue.{AreLemmasDue, LemmasLeft}
 use Rattle.cert_join.specs.Numbered.{IsMarked, IsNumbering, IsWithin}
-use Rattle.cert_join.specs.Spot.{Spot, IsBefore, IsPieceAt}
+use Rattle.cert_join.specs.Spot.{Spot, AreShort, IsBefore, IsPieceAt}
 use Rattle.cert_join.specs.Weighed.{Branch, IsWeighing}
+use Rattle.cert_join.proofs.Passing.{there_moved}
 use Rattle.cert_join.proofs.Places.{get_set_same, get_set_other}
 use Rattle.cert_join.proofs.Spots.{before_all}
 
 -- ---- the beginnings
 
+short_texts : (ls : List CertLine) → AllByRecursion IsSpelled ls → AreShort (texts_of ls)
+short_texts [] h = tt
+short_texts (l ∷ ls) h = (h.0.1, short_texts ls h.1)
+
 pub before_start : (certs : List (List ℕ)) (covers : List Cover) → AreTextsOf covers certs → AreBefore certs (map all_lines covers) (replicate (length certs) nowhere)
 before_start [] [] t = tt
-before_start (cert ∷ certs) (c ∷ covers) t = (before_all cert (all_lines c) t.0.few t.0.lines, before_start certs covers t.1)
+before_start (cert ∷ certs) (c ∷ covers) t = (before_all cert (all_lines c) t.0.few t.0.lines (short_texts (cover_lines c) t.0.spelled), before_start certs covers t.1)
 before_start [] (c ∷ covers) t = absurd t
 before_start (cert ∷ certs) [] t = absurd t
 
@@ -131,7 +140,7 @@ module _ (certs : List (List ℕ)) (spots : List Spot) (part : ℕ) (t : Spot) (
   -- ---- lemmas
 
   pub lemmas_given : (numbers : List (List ℕ)) (f : LemmasLeft) (s : LemmasRead) → AreLemmasDue certs numbers f s spots → AreLemmasDue certs numbers f s (slice_set spots part t)
-  lemmas_given numbers f s d = record { before = before_given certs _ spots part t m d.before; left = d.left; numbered = d.numbered }
+  lemmas_given numbers f s d = record { before = before_given certs _ spots part t m d.before; left = d.left; numbered = d.numbered; long = d.long }
 
   -- ---- the choice of a tree
 
@@ -151,13 +160,14 @@ module _ (certs : List (List ℕ)) (spots : List Spot) (part : ℕ) (t : Spot) (
 
 module _ (k : Course) (spots : List Spot) (part : ℕ) (t : Spot) (there : part < length spots) (m : Stays (k.cert part) (spot_at spots part) t) where
   next_given : (task : Task) (parts : List (List ℕ)) (text : List ℕ) → IsNextDue k task parts text spots → IsNextDue k task parts text (slice_set spots part t)
-  next_given Compare parts text d = record { due = d.due; places = d.places; good = d.good; stand = stand_given k.cert _ spots part t m d.stand; whole = d.whole }
+  next_given Compare parts text d = record { due = d.due; places = d.places; there = there_moved parts spots (slice_set spots part t) (length-set spots part t) d.there; good = d.good; stand = stand_given k.cert _ spots part t m d.stand; whole = d.whole }
   next_given (Copy own waiting) parts text d = record {
     lines = d.lines;
     trees = d.trees;
     spelled = d.spelled;
     due = d.due;
     places = d.places;
+    there = there_moved ((own ∷ []) ∷ parts) spots (slice_set spots part t) (length-set spots part t) d.there;
     good = d.good;
     stand = stand_given k.cert _ spots part t m d.stand;
     whole = d.whole;
@@ -176,8 +186,8 @@ module _ (k : Course) (spots : List Spot) (part : ℕ) (t : Spot) (there : part 
         behind = d.behind;
         shaped = d.shaped;
         spelled = d.spelled;
-        there = omega (arith, d.there, length-set spots part t);
         places = d.places;
+        there = there_moved ((d.taken.part ∷ []) ∷ parts) spots (slice_set spots part t) (length-set spots part t) d.there;
         good = d.good;
         whole = d.whole;
       }

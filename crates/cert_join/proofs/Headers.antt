@@ -1,5 +1,5 @@
 -- Certificates whose first lines are read one after the other.
-use Rattle.std.proofs.Common.{◌≡◌, ◌≢◌, ◌<◌, ◌≤◌, ◌+◌, ◌*◌, ℕ, zero, suc, List, [], ◌∷◌, ◌++◌, append_assoc, Bool, true, false, cond, Option, Some, None, Result, Ok, Err, length, take, drop, map, get_or, refl, ap, sym, ◌∙◌, subst, inl, inr, arith}
+use Rattle.std.proofs.Common.{◌≡◌, ◌≢◌, ◌<◌, ◌≤◌, ◌+◌, ◌*◌, ℕ, zero, suc, List, [], ◌∷◌, ◌++◌, append_assoc, Bool, true, false, true≢false, cond, Option, Some, None, Result, Ok, Err, IsTrue, length, take, drop, map, get_or, refl, ap, sym, ◌∙◌, subst, inl, inr, arith}
 use Rattle.std.specs.Prelude.{nat_eq, slice_get, slice_set, unwrap_or, OnOk}
 use Rattle.std.specs.List.{AllByRecursion}
 use Rattle.std.proofs.lemmas.Bool.Decides.{eqb_tells}
@@ -9,15 +9,17 @@ use Rattle.std.specs.declared.alloc.AllocError.{AllocError}
 use Rattle.cert_read.specs.CertLine.{CertLine, Parsed, parsed, line, version, margin, delta, bound, cover}
 use Rattle.cert_read.specs.LineText.{line_text, IsSpelled, text_of_lines}
 use Rattle.cert_read.proofs.Spelled.{spelled_line}
+use Rattle.cert_model.specs.Due.{is_version}
 use Rattle.cert_joined.specs.Covers.{Cover, IsTextOf, AreTextsOf, joined_version, versions}
 use Rattle.cert_join.specs.declared.heads.Heads.{Heads}
 use Rattle.cert_join.specs.declared.joiner.Step.{Step}
 use Rattle.cert_join.specs.declared.joiner.Step.TheVariants.{Read, On, Over}
 use Rattle.cert_join.specs.declared.stop.Unjoined.{Unjoined}
+use Rattle.cert_join.specs.declared.stop.Unjoined.TheVariants.{Unlike}
 use Rattle.cert_join.specs.Ahead.{AreBefore}
 use Rattle.cert_join.specs.Spot.{Spot, IsBefore, IsFirst, line_in}
 use Rattle.cert_join.specs.Written.{text_of, behind_header}
-use Rattle.cert_join.specs.Heads.{all_lines, ahead_of, firsts, lines_read, IsKept, margin_line, delta_line, bound_line, HasRead, IsReading, TakesText, TakesLine, IsBehind, HasReadOf, ReadsOf, ReadsHeads, AreAlike, head_lines, head_text, AreHeadsRead}
+use Rattle.cert_join.specs.Heads.{all_lines, ahead_of, firsts, lines_read, IsKept, margin_line, delta_line, bound_line, HasRead, IsReading, TakesText, TakesLine, IsBehind, HasReadOf, ReadsOf, ReadsHeads, AreAlike, head_lines, head_text, AreHeadsRead, IsUnjoined, IsUnlike}
 
 -- ---- places
 
@@ -325,6 +327,46 @@ reads cert covers c old mid new s s' l t e r b has first k behind pass =
       place = place_more old mid new r.row k.part k.row behind;
     }
 
+-- ---- a line that may not stand there
+
+all_get : (P : Cover → Type 0) (covers : List Cover) (i : ℕ) (c : Cover) → AllByRecursion P covers → slice_get covers i ≡ Some c → P c
+all_get P [] i c a e = absurd (none_some c e)
+all_get P (d ∷ covers) zero c a e = subst P (some_same d c e) a.0
+all_get P (d ∷ covers) (suc i) c a e = all_get P covers i c a.1 e
+
+-- a kept line is that of each cover, where all have one
+kept_by : (f : Cover → CertLine) (k part row count : ℕ) (covers : List Cover) (c : Cover) (l text : List ℕ) → IsKept f k covers count text → count ≡ 5 * part + row → k ≡ row → 0 < part →
+    slice_get covers part ≡ Some c → l ≡ line_text (f c) → ((first : Cover) (others : List Cover) → covers ≡ first ∷ others → line_text (f c) ≡ line_text (f first)) → l ≡ text
+kept_by f k part row count [] c l text h n e p at is same = absurd (none_some c at)
+kept_by f k part row count (first ∷ others) c l text h n e p at is same =
+    is ∙ same first others refl ∙ sym (h.kept 0 first refl (omega (arith, n, e, p)))
+
+-- no line of covers that may be joined is such a one
+pub none_unlike : (cert : List ℕ) (covers : List Cover) (c : Cover) (h : Heads) (l : List ℕ) → IsTextOf c cert → slice_get covers h.part ≡ Some c → HasRead covers h →
+    IsFirst (drop h.row (all_lines c)) (Some l) → IsUnlike l h → IsUnjoined covers Unlike
+none_unlike cert covers c h l t e r has u j =
+    let i = is_line c h.row r.row in
+    let same : l ≡ i.0 = first_same l i.0 has.0 (drop (suc h.row) (all_lines c)) (sym has.1 ∙ i.1.ahead) in
+    by (subst (IsLine c h.row) (sym same) i.1) h.row refl
+  where
+    margins : (first : Cover) (others : List Cover) → covers ≡ first ∷ others → line_text (margin_line c) ≡ line_text (margin_line first)
+    margins first others k = ap (λ (n : ℕ). line_text (margin n)) (all_get (λ (d : Cover). d.margin_bits ≡ first.margin_bits) covers h.part c (j.alike first others k).margin e)
+
+    deltas : (first : Cover) (others : List Cover) → covers ≡ first ∷ others → line_text (delta_line c) ≡ line_text (delta_line first)
+    deltas first others k = ap (λ (n : ℕ). line_text (delta n)) (all_get (λ (d : Cover). d.delta_bits ≡ first.delta_bits) covers h.part c (j.alike first others k).delta e)
+
+    bounds : (first : Cover) (others : List Cover) → covers ≡ first ∷ others → line_text (bound_line c) ≡ line_text (bound_line first)
+    bounds first others k = ap (λ (n : Option ℕ). line_text (bound n)) (all_get (λ (d : Cover). d.bound ≡ first.bound) covers h.part c (j.alike first others k).bound e)
+
+    by : IsLine c h.row l → (row : ℕ) → h.row ≡ row → ⊥
+    by i zero k =
+        let known = all_get (λ (d : Cover). IsTrue (is_version d.version)) covers h.part c j.versions e in
+        true≢false (sym known ∙ u.version k c.version t.spelled.0.0 (i.version k))
+    by i (suc zero) k = let x = u.margin k in x.1 (kept_by margin_line 1 h.part h.row (lines_read h) covers c l h.margin.items r.margin refl (sym k) x.0 e (i.margin k) margins)
+    by i (suc (suc zero)) k = let x = u.delta k in x.1 (kept_by delta_line 2 h.part h.row (lines_read h) covers c l h.delta.items r.delta refl (sym k) x.0 e (i.delta k) deltas)
+    by i (suc (suc (suc zero))) k = let x = u.bound k in x.1 (kept_by bound_line 3 h.part h.row (lines_read h) covers c l h.bound.items r.bound refl (sym k) x.0 e (i.bound k) bounds)
+    by i (suc (suc (suc (suc row)))) k = let le : 4 ≤ h.row = omega (arith, k) in u.kind le (length c.lemmas) t.spelled.1.1.1.1.0.0 (i.cover le)
+
 -- the certificate whose turn it is moved on
 pub goes_on : (certs : List (List ℕ)) (covers : List Cover) (old : Heads) (spots : List Spot) (d : Spot) (a : AtPart old.part old.row covers certs spots d)
     (r : Result Step Unjoined) (new : Heads) (s : Spot) → ReadsOf a.cert covers a.cover old r new s → ReadsHeads certs covers r new (slice_set spots old.part s)
@@ -333,7 +375,10 @@ goes_on certs covers old spots d a (Ok (Read part)) new s h =
     record { before = subst (λ (lss : List (List (List ℕ))). AreBefore certs lss (slice_set spots old.part s)) (sym (h.place covers)) (a.put s h.ahead h.before); read = h.read }
 goes_on certs covers old spots d a (Ok On) new s h =
     record { before = subst (λ (lss : List (List (List ℕ))). AreBefore certs lss (slice_set spots old.part s)) (sym (h.place covers)) (a.put s h.ahead h.before); read = h.read }
-goes_on certs covers old spots d a (Err e) new s h = tt
+goes_on certs covers old spots d a (Err e) new s h = h
+
+pub some_ahead : (cert : List ℕ) (c : Cover) (row : ℕ) → IsTextOf c cert → row < 5 → 0 < length (drop row (all_lines c))
+some_ahead cert c row t h = let i = is_line c row h in omega (arith, ap length i.1.ahead)
 
 -- ---- the text
 

@@ -1,12 +1,11 @@
 -- The lemmas of one certificate, line by line.
-use Rattle.std.proofs.Common.{◌≡◌, ℕ, suc, ◌+◌, List, [], ◌∷◌, ◌++◌, Bool, true, false, cond, nat_eq, Some, codes, map, length, drop, refl, ap, ap₂, sym, subst, ◌∙◌, append_assoc, true≢false, add-one, add-zero, arith}
-use Rattle.std.specs.Prelude.{slice_get, Ok}
+use Rattle.std.proofs.Common.{◌≡◌, ◌<◌, ℕ, suc, ◌+◌, List, [], ◌∷◌, ◌++◌, Bool, true, false, cond, nat_eq, Some, map, length, length-append, get_or, drop, refl, ap, ap₂, sym, subst, ◌∙◌, append_assoc, true≢false, add-one, add-zero, arith}
+use Rattle.std.specs.Prelude.{Err, Ok, OnOk, Result, slice_get}
+use Rattle.std.specs.declared.alloc.AllocError.{AllocError}
 use Rattle.std.specs.List.{AllByRecursion}
-use Rattle.std.specs.Str.{bytes_eq}
 use Rattle.std.proofs.Math.Seq.{drop-cons}
 use Rattle.std.proofs.lemmas.Bool.{eqb-true}
-use Rattle.std.proofs.lemmas.Option.{slice_get_within, get_or_from_slice_get}
-use Rattle.cover_line.specs.Words.{word_of}
+use Rattle.std.proofs.lemmas.Option.{slice_get-get_or, slice_get_within, get_or_from_slice_get}
 use Rattle.cover_model.specs.Rules.{Line}
 use Rattle.cover_model.specs.Derivation.{Tree, leaf, then, fork, tree_lines}
 use Rattle.cert_read.specs.CertLine.{CertLine, tree_word, lemma, real_interval, bool_value, yes_list, no_list, rule_line}
@@ -17,8 +16,8 @@ use Rattle.cert_join.specs.Kinds.{renumbered}
 use Rattle.cert_join.specs.Written.{lemma_by, new_ones, text_of, texts_of}
 use Rattle.cert_join.specs.LemmasDue.{begun_with, lines_ahead, new_left, tree_part, whole_line, GoesOn, IsBegun, IsBehind, IsInner, IsNextBegun, IsRest, IsTaken, Rest}
 use Rattle.cert_join.specs.Spot.{Spot, IsBefore}
+use Rattle.cert_join.specs.Numbered.{is_tree, line_kind}
 use Rattle.cert_join.specs.declared.lemmas.Lemmas.{Lemmas}
-use Rattle.cert_join.proofs.RuleWords.{first_of, first_of_line, word_told}
 
 -- ---- texts of lines that follow others
 
@@ -118,7 +117,7 @@ due-inner f true l ls rest = text_more (renumbered f l) (map (renumbered f) ls +
 due-inner f false l ls rest = refl
 
 pub goes_inner : (cert : List ℕ) (t : Tree) (numbers : List ℕ) (s s' : Lemmas) (l : CertLine) (ls : List CertLine) (xs : List Lemma) (spot : Spot) (old new : List ℕ) →
-    IsRest s.begun (record { middle = l ∷ ls; lemmas = xs }) → IsTaken numbers l s s' old new (Ok true) →
+    IsRest s.begun (record { middle = l ∷ ls; lemmas = xs }) → IsTaken numbers l s s' old new →
     IsBefore cert (texts_of (lines_ahead s.begun (record { middle = ls; lemmas = xs }) t)) spot →
     GoesOn cert t numbers s s' (record { middle = l ∷ ls; lemmas = xs }) spot old new
 goes_inner cert t numbers s s' l ls xs spot old new h taken before =
@@ -127,6 +126,7 @@ goes_inner cert t numbers s s' l ls xs spot old new h taken before =
     subst P (sym taken.0) (record {
       rest = r;
       is_rest = record { inner = h.inner.1; spelled = h.spelled.1; boxes = h.boxes; lemmas_spelled = h.lemmas_spelled };
+      kept = refl;
       before = before;
       part = refl;
       written = cond s.is_written (whole_line (renumbered (numbered numbers) l)) [];
@@ -165,7 +165,7 @@ unfolding begun-suc
 same-begun n s = ap₂ (λ (a b : ℕ). record s { begun = a; is_written = nat_eq n s.next; next = cond (nat_eq n s.next) b s.next }) (add-one s.begun) (add-one s.next)
 
 pub goes_first : (cert : List ℕ) (t : Tree) (numbers : List ℕ) (s s' : Lemmas) (x : Lemma) (xs : List Lemma) (spot : Spot) (old new : List ℕ) (n : ℕ) →
-    IsRest s.begun (record { middle = []; lemmas = x ∷ xs }) → slice_get numbers s.begun ≡ Some n → IsBegun n s s' old new (Ok true) →
+    IsRest s.begun (record { middle = []; lemmas = x ∷ xs }) → slice_get numbers s.begun ≡ Some n → IsBegun n s s' old new →
     IsBefore cert (texts_of ((lines_behind x ++ lemmas_lines (suc s.begun) xs) ++ (tree_word ∷ tree_part t))) spot →
     GoesOn cert t numbers s s' (record { middle = []; lemmas = x ∷ xs }) spot old new
 unfolding begun-suc
@@ -177,6 +177,7 @@ goes_first cert t numbers s s' x xs spot old new n h e begun before =
     subst P (sym (begun.0 ∙ same-begun n s)) (record {
       rest = record { middle = lines_behind x; lemmas = xs };
       is_rest = record { inner = behind-inner x h.boxes.0; spelled = spelled.0.1; boxes = h.boxes.1; lemmas_spelled = spelled.1 };
+      kept = omega arith;
       before = subst Q (ap texts_of (append_assoc (lines_behind x) (lemmas_lines (suc s.begun) xs) (tree_word ∷ tree_part t))) before;
       part = refl;
       written = cond (nat_eq n s.next) (whole_line (lemma n)) [];
@@ -201,50 +202,65 @@ goes_behind cert t numbers s s' spot old new state same before = record {
 
 -- ---- which line is next
 
-tree-inner : (l : CertLine) → IsInner l → bytes_eq (first_of l) (codes "tree") ≡ false
-tree-inner (real_interval l u) h = refl
-tree-inner (bool_value w) h = refl
-tree-inner (yes_list js) h = refl
-tree-inner (no_list js) h = refl
-tree-inner (rule_line r) h = (word_told (word_of r)).no_tree
-tree-inner _ h = absurd h
+inner-kind : (l : CertLine) → IsInner l → is_tree (line_kind l) ≡ false
+inner-kind (real_interval l u) h = refl
+inner-kind (bool_value w) h = refl
+inner-kind (yes_list js) h = refl
+inner-kind (no_list js) h = refl
+inner-kind (rule_line r) h = refl
+inner-kind _ h = absurd h
 
-not-tree : (l : CertLine) → bytes_eq (first_of l) (codes "tree") ≡ false → line_text l ≡ codes "tree" → ⊥
-not-tree l h e =
-    let same : codes "tree" ≡ first_of l = first_of_line l (codes "tree") (codes "tree") [] refl (sym e) in
-    true≢false (ap (λ (w : List ℕ). bytes_eq w (codes "tree")) same ∙ h)
+-- whether the line stands behind all lemmas
+abbrev pub TellsBehind : List ℕ → Bool → Type 0
+TellsBehind l t = (k : CertLine) → l ≡ line_text k → t ≡ is_tree (line_kind k)
+
+not-tree : (k : CertLine) (l : List ℕ) (t : Bool) → is_tree (line_kind k) ≡ false → TellsBehind l t → line_text k ≡ l → t ≡ true → ⊥
+not-tree k l t h tells e f = true≢false (sym f ∙ tells k (sym e) ∙ h)
+
+-- there is a line ahead
+pub some_lines : (begun : ℕ) (r : Rest) (t : Tree) → 0 < length (texts_of (lines_ahead begun r t))
+some_lines begun r t =
+    let xs = r.middle ++ lemmas_lines begun r.lemmas in
+    let e : lines_ahead begun r t ≡ xs ++ (tree_word ∷ tree_part t) = sym (append_assoc r.middle (lemmas_lines begun r.lemmas) (tree_word ∷ tree_part t)) in
+    omega (arith, ap (λ (ls : List CertLine). length (texts_of ls)) e, ap length (map_both line_text xs (tree_word ∷ tree_part t)), length-append (texts_of xs) (texts_of (tree_word ∷ tree_part t)))
+
+-- the number of the next lemma is there
+pub next_begun : (numbers : List ℕ) (s s' : Lemmas) (old new : List ℕ) (r : Result (Unit {0}) AllocError) → s.begun < length numbers →
+    OnOk r (IsBegun (get_or numbers s.begun 0) s s' old new) → OnOk r (IsNextBegun numbers s s' old new)
+next_begun numbers s s' old new (Err e) l h = tt
+next_begun numbers s s' old new (Ok x) l h = (get_or numbers s.begun 0, slice_get-get_or numbers s.begun 0 l, h)
 
 -- at the line `tree` nothing is left
-pub at_tree : (cert : List ℕ) (t : Tree) (numbers : List ℕ) (s s' : Lemmas) (middle : List CertLine) (lemmas : List Lemma) (spot : Spot) (old new l : List ℕ) (ls : List (List ℕ)) →
-    IsRest s.begun (record { middle = middle; lemmas = lemmas }) → texts_of (lines_ahead s.begun (record { middle = middle; lemmas = lemmas }) t) ≡ l ∷ ls → l ≡ codes "tree" →
+pub at_tree : (cert : List ℕ) (t : Tree) (numbers : List ℕ) (s s' : Lemmas) (middle : List CertLine) (lemmas : List Lemma) (spot : Spot) (old new l : List ℕ) (ls : List (List ℕ)) (b : Bool) →
+    IsRest s.begun (record { middle = middle; lemmas = lemmas }) → texts_of (lines_ahead s.begun (record { middle = middle; lemmas = lemmas }) t) ≡ l ∷ ls → TellsBehind l b → b ≡ true →
     IsBefore cert ls spot → s' ≡ record { part = s.part + 1; begun = 0; is_written = false; next = s.next } → new ≡ old →
     IsBehind cert t numbers s s' (record { middle = middle; lemmas = lemmas }) spot old new
-at_tree cert t numbers s s' (m ∷ ms) xs spot old new l ls h e f before state same =
-    let first : line_text m ≡ l = cc in absurd (not-tree m (tree-inner m h.inner.0) (first ∙ f))
-at_tree cert t numbers s s' [] (x ∷ xs) spot old new l ls h e f before state same =
-    let first : line_text (lemma s.begun) ≡ l = cc in absurd (not-tree (lemma s.begun) refl (first ∙ f))
-at_tree cert t numbers s s' [] [] spot old new l ls h e f before state same =
+at_tree cert t numbers s s' (m ∷ ms) xs spot old new l ls b h e tells f before state same =
+    let first : line_text m ≡ l = cc in absurd (not-tree m l b (inner-kind m h.inner.0) tells first f)
+at_tree cert t numbers s s' [] (x ∷ xs) spot old new l ls b h e tells f before state same =
+    let first : line_text (lemma s.begun) ≡ l = cc in absurd (not-tree (lemma s.begun) l b refl tells first f)
+at_tree cert t numbers s s' [] [] spot old new l ls b h e tells f before state same =
     let rest : ls ≡ texts_of (tree_part t) = cc in
     let Q : List (List ℕ) → Type 0 = λ ks. IsBefore cert ks spot in
     goes_behind cert t numbers s s' spot old new state same (subst Q rest before)
 
 -- any other is one of a lemma
-pub at_line : (cert : List ℕ) (t : Tree) (numbers : List ℕ) (s s' : Lemmas) (middle : List CertLine) (lemmas : List Lemma) (spot : Spot) (old new l : List ℕ) (ls : List (List ℕ)) →
-    IsRest s.begun (record { middle = middle; lemmas = lemmas }) → texts_of (lines_ahead s.begun (record { middle = middle; lemmas = lemmas }) t) ≡ l ∷ ls → (l ≡ codes "tree" → ⊥) →
-    IsBefore cert ls spot →
-    ((i : ℕ) → l ≡ line_text (lemma i) → IsNextBegun numbers s s' old new (Ok true)) →
-    ((k : CertLine) → l ≡ line_text k → IsInner k → IsSpelled k → IsTaken numbers k s s' old new (Ok true)) →
+pub at_line : (cert : List ℕ) (t : Tree) (numbers : List ℕ) (s s' : Lemmas) (middle : List CertLine) (lemmas : List Lemma) (spot : Spot) (old new l : List ℕ) (ls : List (List ℕ)) (b : Bool) →
+    IsRest s.begun (record { middle = middle; lemmas = lemmas }) → s.begun + length lemmas ≡ length numbers →
+    texts_of (lines_ahead s.begun (record { middle = middle; lemmas = lemmas }) t) ≡ l ∷ ls → TellsBehind l b → b ≡ false → IsBefore cert ls spot →
+    ((i : ℕ) → l ≡ line_text (lemma i) → s.begun < length numbers → IsNextBegun numbers s s' old new) →
+    ((k : CertLine) → l ≡ line_text k → IsInner k → IsSpelled k → IsTaken numbers k s s' old new) →
     GoesOn cert t numbers s s' (record { middle = middle; lemmas = lemmas }) spot old new
-at_line cert t numbers s s' (m ∷ ms) xs spot old new l ls h e f before first inner =
+at_line cert t numbers s s' (m ∷ ms) xs spot old new l ls b h long e tells f before first inner =
     let is : l ≡ line_text m = cc in
     let rest : ls ≡ texts_of (lines_ahead s.begun (record { middle = ms; lemmas = xs }) t) = cc in
     let Q : List (List ℕ) → Type 0 = λ ks. IsBefore cert ks spot in
     goes_inner cert t numbers s s' m ms xs spot old new h (inner m is h.inner.0 h.spelled.0) (subst Q rest before)
-at_line cert t numbers s s' [] (x ∷ xs) spot old new l ls h e f before first inner =
+at_line cert t numbers s s' [] (x ∷ xs) spot old new l ls b h long e tells f before first inner =
     let is : l ≡ line_text (lemma s.begun) = cc in
     let rest : ls ≡ texts_of ((lines_behind x ++ lemmas_lines (suc s.begun) xs) ++ (tree_word ∷ tree_part t)) = cc in
     let Q : List (List ℕ) → Type 0 = λ ks. IsBefore cert ks spot in
-    let b = first s.begun is in
-    goes_first cert t numbers s s' x xs spot old new b.0 h b.1 b.2 (subst Q rest before)
-at_line cert t numbers s s' [] [] spot old new l ls h e f before first inner =
-    let is : l ≡ codes "tree" = cc in absurd (f is)
+    let n = first s.begun is (omega (arith, long)) in
+    goes_first cert t numbers s s' x xs spot old new n.0 h n.1 n.2 (subst Q rest before)
+at_line cert t numbers s s' [] [] spot old new l ls b h long e tells f before first inner =
+    let is : l ≡ line_text tree_word = cc in absurd (true≢false (sym (tells tree_word is) ∙ f))

@@ -1,6 +1,7 @@
 -- The lemmas of all certificates.
 use Rattle.std.proofs.Common.{◌≡◌, inl, inr, ⊎_elim, ◌⊎◌, ℕ, zero, suc, ◌+◌, ◌<◌, ◌≤◌, List, [], ◌∷◌, ◌++◌, false, map, length, drop, get_or, set, refl, ap, ap₂, sym, subst, ◌∙◌, append_assoc, append-nil, length-append, add-zero, arith}
-use Rattle.std.specs.Prelude.{Result, Ok, Err}
+use Rattle.std.specs.Prelude.{Result, Ok, Err, Some, slice_get}
+use Rattle.std.specs.declared.alloc.AllocError.{AllocError}
 use Rattle.std.specs.List.{AllByRecursion}
 use Rattle.std.proofs.Math.Seq.{drop-cons}
 use Rattle.std.proofs.lemmas.List.{length-map}
@@ -10,11 +11,10 @@ use Rattle.cert_joined.specs.Covers.{Cover, Lemma, lemma_lines, lemmas_lines}
 use Rattle.cert_join.specs.Ahead.{AreBefore}
 use Rattle.cert_join.specs.Spot.{Spot, IsBefore}
 use Rattle.cert_join.specs.Written.{behind_header, behind_lemmas, new_ones, text_of, texts_of, written_from}
-use Rattle.cert_join.specs.LemmasDue.{all_left, covers_of, each_ahead, later_due, lemmas_due, lines_ahead, lines_due, next_behind, tree_part, AreLemmasDue, GoesOn, HasLemmas, IsBehind, IsLeft, IsRest, LemmasGoOn, LemmasLeft, within, none, LemmasStay, Rest, StepsLemmas, StepsWithin, Waits}
+use Rattle.cert_join.specs.LemmasDue.{all_left, covers_of, each_ahead, later_due, lemmas_due, lines_ahead, lines_due, next_behind, tree_part, AreAsLong, AreLemmasDue, GoesOn, HasLemmas, IsBehind, IsLeft, IsRest, LemmasGoOn, LemmasLeft, within, none, LemmasStay, Rest, StepsLemmas, StepsWithin, Waits}
 use Rattle.cert_join.specs.declared.joiner.Step.{Step}
 use Rattle.cert_join.specs.declared.joiner.Step.TheVariants.{Read, On, Over}
 use Rattle.cert_join.specs.declared.lemmas.Lemmas.{Lemmas}
-use Rattle.cert_join.specs.declared.stop.Unjoined.{Unjoined}
 use Rattle.cert_join.proofs.LemmaLines.{map_both, text_append}
 
 -- ---- the place in one certificate
@@ -83,7 +83,7 @@ covers-left done (c ∷ later) = refl
 
 is-left : (done later : List Cover) (next : ℕ) → AllByRecursion HasLemmas later → IsLeft (begun_at (length done) next) (all_left done later)
 is-left done [] next h = refl
-is-left done (c ∷ later) next h = (refl, h.0, h.1)
+is-left done (c ∷ later) next h = (refl, h.0, h.1, (let z : 0 + length c.lemmas ≡ length c.lemmas = omega arith in z))
 
 -- what is due then
 pub due_left : (numbers : List (List ℕ)) (done later : List Cover) (next : ℕ) → length numbers ≡ length (done ++ later) →
@@ -96,13 +96,15 @@ due_left numbers done (c ∷ later) next e =
     ∙ ap (λ (ns : List (List ℕ)). later_due next ns (c ∷ later)) (sym (drop-cons numbers (length done) [] (omega (arith, e, length-append done (c ∷ later)))))
 
 pub are_due : (certs numbers : List (List ℕ)) (done later : List Cover) (next : ℕ) (spots : List Spot) →
-    AreBefore certs (map behind_lemmas done ++ map behind_header later) spots → AllByRecursion HasLemmas later → length numbers ≡ length (done ++ later) →
+    AreBefore certs (map behind_lemmas done ++ map behind_header later) spots → AllByRecursion HasLemmas later → length numbers ≡ length (done ++ later) → AreAsLong numbers (done ++ later) →
     AreLemmasDue certs numbers (all_left done later) (begun_at (length done) next) spots
-are_due certs numbers done later next spots h k e =
-    let P : List (List (List ℕ)) → Type 0 = λ lss. AreBefore certs lss spots in record {
+are_due certs numbers done later next spots h k e long =
+    let P : List (List (List ℕ)) → Type 0 = λ lss. AreBefore certs lss spots in
+    let L : List Cover → Type 0 = λ cs. AreAsLong numbers cs in record {
       before = subst P (sym (ahead-left done later)) h;
       left = is-left done later next k;
       numbered = e ∙ ap length (sym (covers-left done later));
+      long = subst L (sym (covers-left done later)) long;
     }
 
 -- ---- a step
@@ -116,13 +118,13 @@ module _ (certs numbers : List (List ℕ)) (s s' : Lemmas) (done : List Cover) (
   abbrev own : List ℕ
   own = get_or numbers (length done) []
 
-  goes : s.part ≡ length done → AllByRecursion HasLemmas later → length numbers ≡ length (done ++ (c ∷ later)) →
+  goes : s.part ≡ length done → AllByRecursion HasLemmas later → s.begun + length r.lemmas ≡ length c.lemmas → length numbers ≡ length (done ++ (c ∷ later)) → AreAsLong numbers (done ++ (c ∷ later)) →
       ((ks : List (List ℕ)) → IsBefore cert ks spot → AreBefore certs (map behind_lemmas done ++ (ks ∷ map behind_header later)) spots) →
       GoesOn cert c.tree own s s' r spot old new → LemmasGoOn certs numbers s s' (within done c r later) spots old new
-  goes part ok many changed g =
+  goes part ok fit many long changed g =
       let rest = drop (suc (length done)) numbers in record {
         left = within done c g.rest later;
-        due = record { before = changed (texts_of (lines_ahead s'.begun g.rest c.tree)) g.before; left = (g.part ∙ part, g.is_rest, ok); numbered = many };
+        due = record { before = changed (texts_of (lines_ahead s'.begun g.rest c.tree)) g.before; left = (g.part ∙ part, g.is_rest, ok, g.kept ∙ fit); numbered = many; long = long };
         covers = refl;
         written = g.written;
         appended = g.appended;
@@ -132,10 +134,10 @@ module _ (certs numbers : List (List ℕ)) (s s' : Lemmas) (done : List Cover) (
             ∙ ap (λ (xs : List ℕ). g.written ++ xs) (sym (text_append (lines_due own s' g.rest) (later_due (next_behind own s' g.rest) rest later)));
       }
 
-  ends : s.part ≡ length done → AllByRecursion HasLemmas later → length numbers ≡ length (done ++ (c ∷ later)) →
+  ends : s.part ≡ length done → AllByRecursion HasLemmas later → length numbers ≡ length (done ++ (c ∷ later)) → AreAsLong numbers (done ++ (c ∷ later)) →
       ((ks : List (List ℕ)) → IsBefore cert ks spot → AreBefore certs (map behind_lemmas done ++ (ks ∷ map behind_header later)) spots) →
       IsBehind cert c.tree own s s' r spot old new → LemmasGoOn certs numbers s s' (within done c r later) spots old new
-  ends part ok many changed g =
+  ends part ok many long changed g =
       let more : List Cover = done ++ (c ∷ []) in
       let size : length more ≡ suc (length done) = omega (arith, length-append done (c ∷ [])) in
       let all : done ++ (c ∷ later) ≡ more ++ later = sym (append_assoc done (c ∷ []) later) in
@@ -143,9 +145,10 @@ module _ (certs numbers : List (List ℕ)) (s s' : Lemmas) (done : List Cover) (
       let state : s' ≡ begun_at (length more) s.next = g.state ∙ ap (λ (n : ℕ). begun_at n s.next) (omega (arith, part, size)) in
       let P : Lemmas → Type 0 = λ k. LemmasGoOn certs numbers s k (within done c r later) spots old new in
       let Q : List (List (List ℕ)) → Type 0 = λ lss. AreBefore certs lss spots in
+      let L : List Cover → Type 0 = λ cs. AreAsLong numbers cs in
       subst P (sym state) (record {
         left = all_left more later;
-        due = are_due certs numbers more later s.next spots (subst Q (behind-more done c (map behind_header later)) (changed (texts_of (tree_part c.tree)) g.before)) ok many';
+        due = are_due certs numbers more later s.next spots (subst Q (behind-more done c (map behind_header later)) (changed (texts_of (tree_part c.tree)) g.before)) ok many' (subst L all long);
         covers = covers-left more later ∙ sym all;
         written = [];
         appended = g.same ∙ sym (append-nil old);
@@ -154,29 +157,34 @@ module _ (certs numbers : List (List ℕ)) (s s' : Lemmas) (done : List Cover) (
             ∙ ap text_of (sym (due_left numbers more later s.next many'));
       })
 
-  waits : s.part ≡ length done → IsRest s.begun r → AllByRecursion HasLemmas later → length numbers ≡ length (done ++ (c ∷ later)) →
+  waits : s.part ≡ length done → IsRest s.begun r → AllByRecursion HasLemmas later → s.begun + length r.lemmas ≡ length c.lemmas → length numbers ≡ length (done ++ (c ∷ later)) → AreAsLong numbers (done ++ (c ∷ later)) →
       ((ks : List (List ℕ)) → IsBefore cert ks spot → AreBefore certs (map behind_lemmas done ++ (ks ∷ map behind_header later)) spots) →
       Waits cert c.tree s s' r spot old new → LemmasStay certs numbers s s' (within done c r later) spots old new
-  waits part h ok many changed g =
+  waits part h ok fit many long changed g =
       let P : Lemmas → Type 0 = λ k. LemmasStay certs numbers s k (within done c r later) spots old new in
       subst P (sym g.state) (record {
-        due = record { before = changed (texts_of (lines_ahead s.begun r c.tree)) g.before; left = (part, h, ok); numbered = many };
+        due = record { before = changed (texts_of (lines_ahead s.begun r c.tree)) g.before; left = (part, h, ok, fit); numbered = many; long = long };
         state = refl;
         same = g.same;
       })
 
-  by_result : (result : Result Step Unjoined) → s.part ≡ length done → IsRest s.begun r → AllByRecursion HasLemmas later → length numbers ≡ length (done ++ (c ∷ later)) →
+  by_result : (result : Result Step AllocError) → s.part ≡ length done → IsRest s.begun r → AllByRecursion HasLemmas later → s.begun + length r.lemmas ≡ length c.lemmas → length numbers ≡ length (done ++ (c ∷ later)) → AreAsLong numbers (done ++ (c ∷ later)) →
       ((ks : List (List ℕ)) → IsBefore cert ks spot → AreBefore certs (map behind_lemmas done ++ (ks ∷ map behind_header later)) spots) →
       StepsWithin cert c.tree own s s' r spot old new result → StepsLemmas certs numbers s s' (within done c r later) spots old new result
-  by_result (Ok On) part h ok many changed g = ⊎_elim (goes part ok many changed) (ends part ok many changed) g
-  by_result (Ok (Read k)) part h ok many changed g = waits part h ok many changed g
-  by_result (Ok Over) part h ok many changed g = absurd g
-  by_result (Err e) part h ok many changed g = tt
+  by_result (Ok On) part h ok fit many long changed g = ⊎_elim (goes part ok fit many long changed) (ends part ok many long changed) g
+  by_result (Ok (Read k)) part h ok fit many long changed g = waits part h ok fit many long changed g
+  by_result (Ok Over) part h ok fit many long changed g = absurd g
+  by_result (Err e) part h ok fit many long changed g = tt
+
+-- the cover that is gone through is that at its place
+cover-at : (done : List Cover) (c : Cover) (later : List Cover) → slice_get (done ++ (c ∷ later)) (length done) ≡ Some c
+cover-at [] c later = refl
+cover-at (d ∷ done) c later = cover-at done c later
 
 -- by a step in the certificate that is next
-pub steps_all : (certs numbers : List (List ℕ)) (f : LemmasLeft) (s s' : Lemmas) (spot spot' : Spot) (spots : List Spot) (ns old new : List ℕ) (result : Result Step Unjoined) →
+pub steps_all : (certs numbers : List (List ℕ)) (f : LemmasLeft) (s s' : Lemmas) (spot spot' : Spot) (spots : List Spot) (ns old new : List ℕ) (result : Result Step AllocError) →
     AreLemmasDue certs numbers f s spots → s.part < length spots → ns ≡ get_or numbers s.part [] →
-    ((cert : List ℕ) (t : Tree) (r : Rest) → IsRest s.begun r → IsBefore cert (texts_of (lines_ahead s.begun r t)) (get_or spots s.part spot) → StepsWithin cert t ns s s' r spot' old new result) →
+    ((cert : List ℕ) (t : Tree) (r : Rest) → IsRest s.begun r → s.begun + length r.lemmas ≡ length ns → IsBefore cert (texts_of (lines_ahead s.begun r t)) (get_or spots s.part spot) → StepsWithin cert t ns s s' r spot' old new result) →
     StepsLemmas certs numbers s s' f (set spots s.part spot') old new result
 steps_all certs numbers (none done) s s' spot spot' spots ns old new result h there e step =
     absurd (omega (arith, there, h.left, as_many certs (map behind_lemmas done) spots h.before, length-map done behind_lemmas))
@@ -187,9 +195,11 @@ steps_all certs numbers (within done c r later) s s' spot spot' spots ns old new
     let before = subst B (ap (λ (n : ℕ). get_or spots n spot) at) (p.before spot) in
     let O : List ℕ → Type 0 = λ ks. StepsWithin p.cert c.tree ks s s' r spot' old new result in
     let C : ℕ → Type 0 = λ n. (ks : List (List ℕ)) → IsBefore p.cert ks spot' → AreBefore certs (map behind_lemmas done ++ (ks ∷ map behind_header later)) (set spots n spot') in
-    by_result certs numbers s s' done c r later p.cert spot' (set spots s.part spot') old new result h.left.0 h.left.1 h.left.2 h.numbered
+    let own : ns ≡ get_or numbers (length done) [] = e ∙ ap (λ (n : ℕ). get_or numbers n []) h.left.0 in
+    let long : s.begun + length r.lemmas ≡ length ns = h.left.3 ∙ sym (h.long (length done) c (cover-at done c later)) ∙ ap length (sym own) in
+    by_result certs numbers s s' done c r later p.cert spot' (set spots s.part spot') old new result h.left.0 h.left.1 h.left.2 h.left.3 h.numbered h.long
     (subst C at (λ ks b. p.changed ks spot' b))
-    (subst O (e ∙ ap (λ (n : ℕ). get_or numbers n []) h.left.0) (step p.cert c.tree r h.left.1 before))
+    (subst O own (step p.cert c.tree r h.left.1 long before))
 
 -- where no certificate is next, all lemmas are behind
 pub over_all : (certs numbers : List (List ℕ)) (f : LemmasLeft) (s : Lemmas) (spots : List Spot) (old : List ℕ) → AreLemmasDue certs numbers f s spots →

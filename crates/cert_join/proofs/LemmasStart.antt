@@ -7,7 +7,7 @@ use Rattle.cert_joined.specs.Covers.{Cover, IsTextOf, AreTextsOf, lemmas_lines}
 use Rattle.cert_join.specs.Ahead.{AreBefore}
 use Rattle.cert_join.specs.Spot.{Spot}
 use Rattle.cert_join.specs.Written.{behind_header, behind_lemmas, text_of, written_from}
-use Rattle.cert_join.specs.LemmasDue.{all_left, covers_of, each_ahead, lemmas_due, tree_part, AreLemmasDue, HasLemmas, LemmasLeft, none}
+use Rattle.cert_join.specs.LemmasDue.{all_left, covers_of, each_ahead, lemmas_due, tree_part, AreAsLong, AreLemmasDue, HasLemmas, LemmasLeft, none}
 use Rattle.cert_join.specs.declared.lemmas.Lemmas.{Lemmas}
 use Rattle.cert_join.proofs.LemmaLines.{all_append}
 use Rattle.cert_join.proofs.LemmasAll.{are_due, begun_at, due_left}
@@ -28,8 +28,8 @@ texts_have (c ∷ covers) [] h = absurd h
 
 -- behind the headers all lemmas are left
 pub lemmas_start : (covers : List Cover) (certs numbers : List (List ℕ)) (spots : List Spot) → AreTextsOf covers certs → AreBefore certs (map behind_header covers) spots →
-    length numbers ≡ length covers → AreLemmasDue certs numbers (all_left [] covers) (begun_at 0 0) spots
-lemmas_start covers certs numbers spots texts before many = are_due certs numbers [] covers 0 spots before (texts_have covers certs texts) many
+    length numbers ≡ length covers → AreAsLong numbers covers → AreLemmasDue certs numbers (all_left [] covers) (begun_at 0 0) spots
+lemmas_start covers certs numbers spots texts before many long = are_due certs numbers [] covers 0 spots before (texts_have covers certs texts) many long
 
 pub start_covers : (covers : List Cover) → covers_of (all_left [] covers) ≡ covers
 start_covers [] = refl

@@ -27,6 +27,7 @@ pub mod Standing
 pub mod Stepping
 pub mod Walks
 pub mod Steps
+pub mod Totals
 pub mod Weighs
 pub mod Yielding
 pub mod Moved

@@ -17,13 +17,14 @@ whole-further : (k : Course) (text out : List ℕ) → IsWhole k (text ++ out) �
 whole-further k text out w = (w.0, w.1, append_assoc k.done text out ∙ w.2)
 
 due-further : (k : Course) (task : Task) (parts : List (List ℕ)) (text : List ℕ) (spots : List Spot) → IsNextDue k task parts text spots → IsNextDue (further k text) task parts [] spots
-due-further k Compare parts text spots d = record { due = d.due; places = d.places; good = d.good; stand = d.stand; whole = λ out y. whole-further k text out (d.whole out y) }
+due-further k Compare parts text spots d = record { due = d.due; places = d.places; there = d.there; good = d.good; stand = d.stand; whole = λ out y. whole-further k text out (d.whole out y) }
 due-further k (Copy part waiting) parts text spots d = record {
   lines = d.lines;
   trees = d.trees;
   spelled = d.spelled;
   due = d.due;
   places = d.places;
+  there = d.there;
   good = d.good;
   stand = d.stand;
   whole = λ out y. whole-further k text _ (d.whole out y);
@@ -39,8 +40,8 @@ due-further k (Weigh w) parts text spots d = record {
   behind = d.behind;
   shaped = d.shaped;
   spelled = d.spelled;
-  there = d.there;
   places = d.places;
+  there = d.there;
   good = d.good;
   whole = λ out y. whole-further k text _ (d.whole out y);
 }

@@ -3,7 +3,7 @@ use Rattle.std.proofs.Common.{◌≡◌, ◌≢◌, ◌<◌, ◌≤◌, inl, inr
 use Rattle.std.proofs.lemmas.Bool.{eqb-true, eq-eqb, ne_eqb, cases_eq, both_ways}
 use Rattle.std.proofs.lemmas.List.{get_or_default, take_all, take_more}
 use Rattle.cert_join.specs.Spot.{Spot, IsReady}
-use Rattle.cert_join.specs.Gathered.{spot_at, nowhere, is_in, AreDistinct, AllReady, AllThere, AreResized, Passed, PassedIf, ArePassed}
+use Rattle.cert_join.specs.Gathered.{spot_at, nowhere, is_in, AreDistinct, AllReady, AllThere, AreThere, AreResized, Passed, PassedIf, ArePassed}
 
 -- ---- one of them is replaced
 
@@ -157,15 +157,19 @@ ready_all parts k b h r = let P : List ℕ → Type 0 = λ x. AllReady x b in su
 pub passed_all : (parts : List ℕ) (k : ℕ) (a b : List Spot) → length parts ≤ k → ArePassed (take k parts) a b → ArePassed parts a b
 passed_all parts k a b h r = let P : List ℕ → Type 0 = λ x. ArePassed x a b in subst P (take_all k parts h) r
 
-pub there_none : (spots : List Spot) → AllThere [] spots
-there_none spots i e = absurd (both_ways false refl e)
+-- ---- which of them are there
 
--- one more is there
-pub there_more : (parts : List ℕ) (k : ℕ) (spots : List Spot) → k < length parts → get_or parts k 0 < length spots → AllThere (take k parts) spots → AllThere (take (k + 1) parts) spots
-there_more parts k spots h n was i m = elim (cases_eq i (get_or parts k 0)) [
-  | inl q ↦ let P : ℕ → Type 0 = λ j. j < length spots in subst P (sym q) n
-  | inr ne ↦ was i (sym (or-none' _ _ (ne_eqb i _ ne)) ∙ sym (ap (is_in i) (take_more parts k 0 h) ∙ in_more i (get_or parts k 0) (take k parts)) ∙ m)
-]
+-- as many are, whatever became of them
+pub there_moved : (parts : List (List ℕ)) (s t : List Spot) → length t ≡ length s → AreThere parts s → AreThere parts t
+there_moved [] s t e h = tt
+there_moved (now ∷ parts) s t e h = ((λ i q. let n : i < length s = h.0 i q in omega arith), there_moved parts s t e h.1)
 
-pub there_all : (parts : List ℕ) (k : ℕ) (spots : List Spot) → length parts ≤ k → AllThere (take k parts) spots → AllThere parts spots
-there_all parts k spots h r = let P : List ℕ → Type 0 = λ x. AllThere x spots in subst P (take_all k parts h) r
+pub one_there : (p : ℕ) (spots : List Spot) → p < length spots → AllThere (p ∷ []) spots
+one_there p spots h i q = elim (cases_eq i p) [ inl e ↦ omega arith | inr ne ↦ absurd (both_ways _ (or-none _ false (ne_eqb i p ne)) q) ]
+
+pub one_below : (p : ℕ) (spots : List Spot) → AllThere (p ∷ []) spots → p < length spots
+one_below p spots h = h p (or-left _ false (eq-eqb p p refl))
+
+-- one of some that are there
+pub there_at : (parts : List ℕ) (k : ℕ) (spots : List Spot) → k < length parts → AllThere parts spots → get_or parts k 0 < length spots
+there_at parts k spots h there = there (get_or parts k 0) (in-at parts k h)

@@ -1,11 +1,9 @@
 -- The first word of a line of a tree, and the number of its lemma.
-use Rattle.std.proofs.Common.{◌≡◌, ◌<◌, ◌≤◌, ◌^◌, ℕ, ◌⊎◌, inl, inr, List, [], ◌∷◌, ◌++◌, true, false, not, ◌||◌, nat_eq, IsTrue, Option, Some, None, codes, cond, refl, ap, ap₂, sym, ◌∙◌, length, get_or, subst, ⊎_elim, append_assoc, arith}
-use Rattle.std.specs.Prelude.{Bool, decimal, is_some, slice_get, IfSome, Ok}
+use Rattle.std.proofs.Common.{◌≡◌, ◌<◌, ◌≤◌, ◌^◌, ℕ, suc, zero, ◌⊎◌, inl, inr, List, [], ◌∷◌, ◌++◌, true, false, not, ◌||◌, nat_eq, IsTrue, Option, Some, None, codes, cond, refl, ap, ap₂, sym, ◌∙◌, length, subst, append_assoc, arith}
+use Rattle.std.specs.Prelude.{Bool, decimal, is_some}
 use Rattle.std.specs.Str.{bytes_eq, all_ascii_digits}
 use Rattle.std.specs.Str.Parse.{digits_value}
-use Rattle.std.proofs.lemmas.Bool.{cases_lt}
 use Rattle.std.proofs.lemmas.Bool.Decides.{eqb_tells}
-use Rattle.std.proofs.lemmas.Option.{slice_get_within, get_or_from_slice_get, slice_get-get_or}
 use Rattle.std.proofs.lemmas.Fmt.{digits_decimal}
 use Rattle.std.proofs.lemmas.Str.Parse.{IsNumeralModel, tells_all_ascii_digits, numerals_by_value}
 use Rattle.cover_line.specs.Words.{RuleWord, empty_word, pull_word, unit_word, ban_word, void_word, push_word, void_no_word, false_word, by_word, cut_word, flip_word, case_word, open_word, stuck_word, combine_word, void_combine_word, narrowing_word, voiding_word, word_of, word_text}
@@ -19,7 +17,7 @@ use Rattle.cert_join.specs.declared.line.Left.{Left}
 use Rattle.cert_join.specs.declared.line.Left.TheVariants.{Nothing, One, Open}
 use Rattle.cert_join.specs.declared.numbering.Kind.TheVariants.{Other}
 use Rattle.cert_join.specs.Numbered.{word_kind}
-use Rattle.cert_join.specs.Kinds.{kind_of_word, left_kind, rule_text, lemma_front, lemma_named, does_name, lemma_named_in, number_among, renumbered, IsRenumbered}
+use Rattle.cert_join.specs.Kinds.{kind_of_word, left_kind, rule_text, lemma_front, lemma_named, does_name, lemma_named_in, renumbered, IsRenumbered}
 use Rattle.cert_join.proofs.Spaced.{both_pass, split_spaced}
 
 -- ---- what a first word tells
@@ -43,25 +41,24 @@ pub record IsWordTold (w : RuleWord) : Type 0 where
   pub names : is_naming_text (word_text w) ≡ names_by_word w
   -- no word of a lemma's or a certificate's own lines
   pub other : word_kind (word_text w) ≡ Other
-  pub no_tree : bytes_eq (word_text w) (codes "tree") ≡ false
 
 pub word_told : (w : RuleWord) → IsWordTold w
-word_told empty_word = record { one = refl; which = refl; names = refl; other = refl; no_tree = refl }
-word_told pull_word = record { one = refl; which = refl; names = refl; other = refl; no_tree = refl }
-word_told unit_word = record { one = refl; which = refl; names = refl; other = refl; no_tree = refl }
-word_told ban_word = record { one = refl; which = refl; names = refl; other = refl; no_tree = refl }
-word_told void_word = record { one = refl; which = refl; names = refl; other = refl; no_tree = refl }
-word_told push_word = record { one = refl; which = refl; names = refl; other = refl; no_tree = refl }
-word_told void_no_word = record { one = refl; which = refl; names = refl; other = refl; no_tree = refl }
-word_told false_word = record { one = refl; which = refl; names = refl; other = refl; no_tree = refl }
-word_told by_word = record { one = refl; which = refl; names = refl; other = refl; no_tree = refl }
-word_told cut_word = record { one = refl; which = refl; names = refl; other = refl; no_tree = refl }
-word_told flip_word = record { one = refl; which = refl; names = refl; other = refl; no_tree = refl }
-word_told case_word = record { one = refl; which = refl; names = refl; other = refl; no_tree = refl }
-word_told open_word = record { one = refl; which = refl; names = refl; other = refl; no_tree = refl }
-word_told stuck_word = record { one = refl; which = refl; names = refl; other = refl; no_tree = refl }
-word_told combine_word = record { one = refl; which = refl; names = refl; other = refl; no_tree = refl }
-word_told void_combine_word = record { one = refl; which = refl; names = refl; other = refl; no_tree = refl }
+word_told empty_word = record { one = refl; which = refl; names = refl; other = refl }
+word_told pull_word = record { one = refl; which = refl; names = refl; other = refl }
+word_told unit_word = record { one = refl; which = refl; names = refl; other = refl }
+word_told ban_word = record { one = refl; which = refl; names = refl; other = refl }
+word_told void_word = record { one = refl; which = refl; names = refl; other = refl }
+word_told push_word = record { one = refl; which = refl; names = refl; other = refl }
+word_told void_no_word = record { one = refl; which = refl; names = refl; other = refl }
+word_told false_word = record { one = refl; which = refl; names = refl; other = refl }
+word_told by_word = record { one = refl; which = refl; names = refl; other = refl }
+word_told cut_word = record { one = refl; which = refl; names = refl; other = refl }
+word_told flip_word = record { one = refl; which = refl; names = refl; other = refl }
+word_told case_word = record { one = refl; which = refl; names = refl; other = refl }
+word_told open_word = record { one = refl; which = refl; names = refl; other = refl }
+word_told stuck_word = record { one = refl; which = refl; names = refl; other = refl }
+word_told combine_word = record { one = refl; which = refl; names = refl; other = refl }
+word_told void_combine_word = record { one = refl; which = refl; names = refl; other = refl }
 
 -- no two words have one spelling
 pub same_word : (v w : RuleWord) → word_text v ≡ word_text w → v ≡ w
@@ -306,30 +303,20 @@ decimal_lacks n h = digits-lack (decimal n) (digits_decimal model n (omega (arit
 
 -- ---- the line with the number that is given
 
-number-there : (numbers : List ℕ) (i n : ℕ) → slice_get numbers i ≡ Some n → (i < length numbers) × (n ≡ get_or numbers i 0)
-number-there numbers i n e = (slice_get_within numbers i n e, sym (get_or_from_slice_get numbers i n 0 e))
+-- lemmas that are not there have number 0
+pub number_past : (numbers : List ℕ) (i : ℕ) → length numbers ≤ i → 0 ≡ numbered numbers i
+number_past [] zero h = refl
+number_past [] (suc i) h = refl
+number_past (n ∷ numbers) zero h = absurd (omega (arith, h))
+number_past (n ∷ numbers) (suc i) h = number_past numbers i (omega (arith, h))
 
-number-none : (numbers : List ℕ) (i : ℕ) → slice_get numbers i ≡ None → length numbers ≤ i
-number-none numbers i e = ⊎_elim (λ (h : i < length numbers). absurd (let f : ◌≡◌ {A = Option ℕ} None (Some (get_or numbers i 0)) = sym e ∙ slice_get-get_or numbers i 0 h in cc)) (λ (h : length numbers ≤ i). h) (cases_lt i (length numbers))
-
-pub with_number : (r : Line) (i : ℕ) (numbers old new front : List ℕ) (named : Option ℕ) (n : ℕ) → lemma_named r ≡ Some i
-    → front ≡ lemma_front r → named ≡ Some i → Some n ≡ number_among numbers named → new ≡ old ++ (front ++ decimal n)
-    → IsRenumbered numbers (rule_line r) old new (Ok true)
-with_number r i numbers old new front named n h f g e k =
-    let at = number-there numbers i n (sym (e ∙ ap (number_among numbers) g)) in (
-      k ∙ ap₂ (λ (xs : List ℕ) (m : ℕ). old ++ (xs ++ decimal m)) f at.1 ∙ ap (λ (xs : List ℕ). old ++ xs) (sym (front_and_number r i h (numbered numbers))),
-      let P : Option ℕ → Type 0 = λ o. IfSome o (λ k. k < length numbers) in subst P (sym h) at.0,
-    )
-
-pub without_number : (r : Line) (i : ℕ) (numbers : List ℕ) (named : Option ℕ) → lemma_named r ≡ Some i → named ≡ Some i
-    → None ≡ number_among numbers named → (k : ℕ) × (lemma_named r ≡ Some k) × (length numbers ≤ k)
-without_number r i numbers named h g e = (i, h, number-none numbers i (sym (e ∙ ap (number_among numbers) g)))
+pub with_number : (r : Line) (i : ℕ) (numbers old new front : List ℕ) (n : ℕ) → lemma_named r ≡ Some i → front ≡ lemma_front r → n ≡ numbered numbers i
+    → new ≡ old ++ (front ++ decimal n) → IsRenumbered numbers (rule_line r) old new
+with_number r i numbers old new front n h f at k =
+    k ∙ ap₂ (λ (xs : List ℕ) (m : ℕ). old ++ (xs ++ decimal m)) f at ∙ ap (λ (xs : List ℕ). old ++ xs) (sym (front_and_number r i h (numbered numbers)))
 
 -- a line that names none stays
 pub as_it_is : (l : CertLine) (numbers old new text : List ℕ) → does_name l ≡ false → text ≡ line_text l → new ≡ old ++ text
-    → IsRenumbered numbers l old new (Ok true)
+    → IsRenumbered numbers l old new
 as_it_is l numbers old new text h e k =
-    let none = none_named l h (numbered numbers) in (
-      k ∙ ap (λ (xs : List ℕ). old ++ xs) (e ∙ ap line_text (sym none.1)),
-      let P : Option ℕ → Type 0 = λ o. IfSome o (λ k. k < length numbers) in subst P (sym none.0) tt,
-    )
+    let none = none_named l h (numbered numbers) in k ∙ ap (λ (xs : List ℕ). old ++ xs) (e ∙ ap line_text (sym none.1))

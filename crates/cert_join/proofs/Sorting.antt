@@ -1,6 +1,8 @@
 -- Trees at one place, by what their first lines leave.
-use Rattle.std.proofs.Common.{◌≡◌, ◌<◌, ◌≤◌, ℕ, suc, zero, ◌+◌, List, [], ◌∷◌, ◌++◌, length, take, get_or, Bool, true, false, cond, Option, Some, Ok, Vec, refl, sym, ap, subst, ◌∙◌, arith}
+use Rattle.std.proofs.Common.{◌≡◌, ◌<◌, ◌≤◌, ℕ, suc, zero, ◌+◌, List, [], ◌∷◌, ◌++◌, length, take, get_or, Bool, true, false, cond, Some, Ok, Vec, refl, sym, ap, subst, ◌∙◌, arith}
+use Rattle.std.specs.Prelude.{Err, OnOk, Result}
 use Rattle.std.specs.List.{AllByRecursion}
+use Rattle.std.specs.declared.alloc.AllocError.{AllocError}
 use Rattle.std.proofs.lemmas.List.{get_or_read, append-nil, take_more, take_all, map-append, length-map}
 use Rattle.cover_model.specs.Rules.{Line, open_line}
 use Rattle.cover_model.specs.Derivation.{Tree, leaf}
@@ -10,9 +12,10 @@ use Rattle.cert_joined.specs.Joined.{first_line}
 use Rattle.cert_joined.specs.Covers.{line_by, numbered}
 use Rattle.cert_join.specs.declared.line.Left.{Left}
 use Rattle.cert_join.specs.Kinds.{IsRenumbered, rule_text, left_kind, does_stay}
-use Rattle.cert_join.specs.Spot.{Spot, line_in}
-use Rattle.cert_join.specs.Gathered.{spot_at, nowhere, lists_of, numbers_at, Meeting, parts_of, does_leave, going, leaving, IsNextOf, AreNext, text_at, AreAlike}
+use Rattle.cert_join.specs.Spot.{Spot, line_in, or_none, text_in}
+use Rattle.cert_join.specs.Gathered.{spot_at, nowhere, lists_of, numbers_at, Meeting, parts_of, does_leave, going, leaving, AllThere, IsNextOf, AreNext, text_at, AreAlike}
 use Rattle.cert_join.proofs.Below.{leaving_left}
+use Rattle.cert_join.proofs.Passing.{there_at}
 
 some-tree : ℕ × Tree
 some-tree = (0, leaf open_line)
@@ -125,29 +128,36 @@ sorted_all place parts k grown left e h was =
 -- what is appended of one of these certificates
 abbrev pub Appends : List (List ℕ) → List Spot → ℕ → List ℕ → List ℕ → Type 0
 Appends numbers spots part before after =
-    (part < length spots) × ((r : Line) → line_in (spot_at spots part) ≡ Some (rule_text r) → IsSpelled (rule_line r) → after ≡ before ++ text_at numbers part r)
+    part < length spots → (r : Line) → line_in (spot_at spots part) ≡ Some (rule_text r) → IsSpelled (rule_line r) → after ≡ before ++ text_at numbers part r
 
 -- is its line
-pub appended : (numbers : List (List ℕ)) (spots : List Spot) (part : ℕ) (before after : List ℕ) (x : ℕ × Tree) → x.0 ≡ part → IsNextOf spots x →
+pub appended : (numbers : List (List ℕ)) (spots : List Spot) (part : ℕ) (before after : List ℕ) (x : ℕ × Tree) → x.0 ≡ part → IsNextOf spots x → x.0 < length spots →
     Appends numbers spots part before after → after ≡ before ++ text_at numbers x.0 (first_line x.1)
-appended numbers spots part before after x e next app =
+appended numbers spots part before after x e next there app =
     let P : ℕ → Type 0 = λ i. Appends numbers spots i before after in
     let a = subst P (sym e) app in
-    a.1 (first_line x.1) (next.0 a.0) next.1
+    a there (first_line x.1) (next.0 there) next.1
 
 pub from_none : (numbers : List (List ℕ)) (spots : List Spot) (part : ℕ) (before after : List ℕ) → before ≡ [] → Appends numbers spots part before after → Appends numbers spots part [] after
 from_none numbers spots part before after e app = let P : List ℕ → Type 0 = λ z. Appends numbers spots part z after in subst P e app
 
 module _ (numbers : List (List ℕ)) (spots : List Spot) (x : ℕ × Tree) (place : Meeting) (others : List ℕ) (first : ℕ) (line : List ℕ)
-    (first-is : x.0 ≡ first) (e : parts_of place ≡ others) (next : AreNext spots (x ∷ place)) (app : Appends numbers spots first [] line) where
+    (first-is : x.0 ≡ first) (e : parts_of place ≡ others) (there : AllThere (parts_of (x ∷ place)) spots) (next : AreNext spots (x ∷ place)) (app : Appends numbers spots first [] line) where
+  other-there : (k : ℕ) → k < length place → (get_or place k some-tree).0 < length spots
+  unfolding some-tree
+  other-there k w =
+      let n : suc k < length (parts_of (x ∷ place)) = omega (arith, w, length-map {A = ℕ × Tree} {B = ℕ} place (λ x. x.0)) in
+      let P : ℕ → Type 0 = λ j. j < length spots in
+      subst P (part-at place k) (there_at (parts_of (x ∷ place)) (suc k) spots n there)
+
   same-at : (k : ℕ) (other : List ℕ) → k < length others → Appends numbers spots (get_or others k 0) [] other →
       (k < length place) × (line ≡ text_at numbers x.0 (first_line x.1)) × (other ≡ text_at numbers (get_or place k some-tree).0 (first_line (get_or place k some-tree).1))
   same-at k other h app' =
       let m : length (parts_of place) ≡ length others = ap length e in
       let w : k < length place = omega (arith, length-map {A = ℕ × Tree} {B = ℕ} place (λ x. x.0)) in (
         w,
-        appended numbers spots first [] line x first-is next.0 app,
-        appended numbers spots (get_or others k 0) [] other (get_or place k some-tree) (sym (part-at place k) ∙ ap (λ z. get_or z k 0) e) (all-at (IsNextOf spots) place k some-tree w next.1) app',
+        appended numbers spots first [] line x first-is next.0 (there_at (parts_of (x ∷ place)) 0 spots (omega arith) there) app,
+        appended numbers spots (get_or others k 0) [] other (get_or place k some-tree) (sym (part-at place k) ∙ ap (λ z. get_or z k 0) e) (all-at (IsNextOf spots) place k some-tree w next.1) (other-there k w) app',
       )
 
   -- one more is the same
@@ -172,21 +182,15 @@ module _ (numbers : List (List ℕ)) (spots : List Spot) (x : ℕ × Tree) (plac
 
 -- ---- the line of one certificate, where it is read
 
-numbers-at : {Z : Type 0} (vs : List (Vec ℕ Z)) (p : ℕ) (v : Vec ℕ Z) → p < length vs → v ≡ get_or vs p v → v.items ≡ numbers_at (lists_of vs) p
-numbers-at [] p v h e = absurd (omega arith)
-numbers-at (u ∷ vs) zero v h e = ap (λ (z : Vec ℕ _). z.items) e
-numbers-at (u ∷ vs) (suc p) v h e = numbers-at vs p v (omega arith) e
+pub line_appended : {Z : Type 0} (vs : List (Vec ℕ Z)) (part : ℕ) (spots : List Spot) (r : Spot) (numbers line text after : List ℕ) (o : Result (Unit {0}) AllocError) → part < length spots → r ≡ get_or spots part r →
+    numbers ≡ numbers_at (lists_of vs) part → line ≡ text_in r → ((l : CertLine) → line ≡ line_text l → IsSpelled l → OnOk o (IsRenumbered numbers l text after)) → OnOk o (Appends (lists_of vs) spots part text after)
+line_appended vs part spots r numbers line text after (Err x) h e n known taken = tt
+line_appended vs part spots r numbers line text after (Ok x) h e n known taken = λ there l same spelled.
+    let q : r ≡ spot_at spots part = get_or_read spots part r h e nowhere in
+    let s : line ≡ rule_text l = known ∙ ap text_in q ∙ ap or_none same in
+    taken (rule_line l) s spelled ∙ ap (λ z. text ++ rule_text (line_by (numbered z) l)) n
 
-some-same : (l m : List ℕ) (o : Option (List ℕ)) → Some l ≡ o → o ≡ Some m → l ≡ m
-some-same l m o e f = cc
-
-pub line_appended : {Z : Type 0} (vs : List (Vec ℕ Z)) (part : ℕ) (spots : List Spot) (r : Spot) (v : Vec ℕ Z) (numbers line text after : List ℕ) (b : Bool) → part < length spots → part < length vs → r ≡ get_or spots part r → v ≡ get_or vs part v →
-    numbers ≡ v.items → Some line ≡ line_in r → b ≡ true → ((l : CertLine) → line ≡ line_text l → IsSpelled l → IsRenumbered numbers l text after (Ok b)) → Appends (lists_of vs) spots part text after
-line_appended vs part spots r v numbers line text after b h h' e f n known is taken =
-    let P : Bool → Type 0 = λ c. (l : CertLine) → line ≡ line_text l → IsSpelled l → IsRenumbered numbers l text after (Ok c) in
-    let q : r ≡ spot_at spots part = get_or_read spots part r h e nowhere in (
-      h,
-      λ l same spelled.
-          let s : line ≡ rule_text l = some-same line (rule_text l) (line_in (spot_at spots part)) (known ∙ ap line_in q) same in
-          (subst P is taken (rule_line l) s spelled).0 ∙ ap (λ z. text ++ rule_text (line_by (numbered z) l)) (n ∙ numbers-at vs part v h' f),
-    )
+-- what the line of a certificate leaves
+pub left_there : (spots : List Spot) (part : ℕ) (r : Spot) (line : List ℕ) (k : Left) → part < length spots → r ≡ get_or spots part r → line ≡ text_in r →
+    ((l : Line) → line ≡ rule_text l → k ≡ left_kind l) → (l : Line) → line_in (spot_at spots part) ≡ Some (rule_text l) → k ≡ left_kind l
+left_there spots part r line k h e known left l same = left l (known ∙ ap text_in (get_or_read spots part r h e nowhere) ∙ ap or_none same)

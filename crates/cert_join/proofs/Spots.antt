@@ -11,7 +11,7 @@ use Rattle.cert_read.specs.Lines.{split_at, onto_first, lines_of, without_last_e
 use Rattle.cert_read.proofs.Ahead.{ahead_line, ahead_last}
 use Rattle.cert_read.proofs.Parts.{split_some}
 use Rattle.cert_join.specs.declared.cursor.Mark.{Mark}
-use Rattle.cert_join.specs.Spot.{Spot, IsBefore, IsFirst, IsLineSize, HasNoLine, IsPieceAt, IsReady, IsMark, start, rewound}
+use Rattle.cert_join.specs.Spot.{Spot, AreShort, IsBefore, IsFirst, IsLineSize, HasNoLine, IsPieceAt, IsReady, IsMark, line_in, or_none, rewound, start, text_in}
 
 -- ---- how long the next line is
 
@@ -142,14 +142,33 @@ before_none cert ls s b h t =
 pub ready_none : (s : Spot) → s.size ≡ None → HasNoLine s.unread s.ended → IsTrue s.ended ⊎ (524288 < length s.unread) → IsReady s
 ready_none s e h t = λ cert ls b. subst (λ (o : Option ℕ). IsFirst ls (option_map (λ k. take k s.unread) o)) (sym e) (before_none cert ls s b h t)
 
+-- where a line is ahead and ready, it is the text of the place
+ready-is : (ls : List (List ℕ)) (o : Option (List ℕ)) → 0 < length ls → AreShort ls → IsFirst ls o → IsFirst ls (Some (or_none o)) × (o ≡ Some (or_none o))
+ready-is ls (Some l) some short f = (f, refl)
+ready-is [] None some short f = absurd (omega (arith, some))
+ready-is (l ∷ ls) None some short f = absurd (omega (arith, f, short.0))
+
+pub ready_first : (cert : List ℕ) (ls : List (List ℕ)) (s : Spot) → 0 < length ls → IsBefore cert ls s → IsReady s → IsFirst ls (Some (text_in s)) × (line_in s ≡ Some (text_in s))
+ready_first cert ls s some b ready = ready-is ls (line_in s) some b.short (ready cert ls b)
+
+first-line : (l m : List ℕ) (ls rest : List (List ℕ)) → l ∷ ls ≡ m ∷ rest → m ≡ l
+first-line l m ls rest e = cc
+
+-- the first of these lines is
+pub ready_text : (cert l : List ℕ) (ls : List (List ℕ)) (s : Spot) → IsBefore cert (l ∷ ls) s → IsReady s → (text_in s ≡ l) × (line_in s ≡ Some l)
+ready_text cert l ls s b ready =
+    let f = ready_first cert (l ∷ ls) s (omega arith) b ready in
+    let e = first-line l (text_in s) ls f.0.0 f.0.1 in
+    (e, f.1 ∙ ap (λ (x : List ℕ). Some x) e)
+
 -- whether the next line is known does not move a place
 pub before_same : (cert : List ℕ) (ls : List (List ℕ)) (s : Spot) (o : Option ℕ) → IsBefore cert ls s → IsBefore cert ls (record s { size = o })
-before_same cert ls s o b = record { few = b.few; within = b.within; reached = b.reached; held = b.held; ended = b.ended; lines = b.lines }
+before_same cert ls s o b = record { few = b.few; within = b.within; reached = b.reached; held = b.held; ended = b.ended; lines = b.lines; short = b.short }
 
 -- the place behind the next line
-pub before_next : (cert l : List ℕ) (ls : List (List ℕ)) (s : Spot) (n k : ℕ) → IsBefore cert (l ∷ ls) s → IsLineSize s.unread s.ended n
-    → IsBefore cert ls (record { unread = drop (n + 1) s.unread; behind = s.behind; ended = s.ended; size = None; lines = k })
-before_next cert l ls s n k b h =
+pub before_next : (cert l : List ℕ) (ls : List (List ℕ)) (s : Spot) (n : ℕ) → IsBefore cert (l ∷ ls) s → IsLineSize s.unread s.ended n
+    → IsBefore cert ls (record { unread = drop (n + 1) s.unread; behind = s.behind; ended = s.ended; size = None })
+before_next cert l ls s n b h =
     let tail = drop s.behind cert in
     let left = drop (n + 1) s.unread in
     let held : drop (s.behind - length left) cert ≡ left ++ tail = ⊎_elim
@@ -169,11 +188,12 @@ before_next cert l ls s n k b h =
       held = held;
       ended = b.ended;
       lines = ap lines_of held ∙ rest;
+      short = b.short.1;
     }
 
 -- with more bytes
 pub before_more : (cert : List ℕ) (ls : List (List ℕ)) (s : Spot) (piece : List ℕ) (e : Bool) → IsBefore cert ls s → IsPieceAt (drop s.behind cert) piece → (IsTrue e → piece ≡ [])
-    → IsBefore cert ls (record { unread = s.unread ++ piece; behind = s.behind + length piece; ended = e; size = None; lines = s.lines })
+    → IsBefore cert ls (record { unread = s.unread ++ piece; behind = s.behind + length piece; ended = e; size = None })
 before_more cert ls s piece e b p t =
     let all = length-append s.unread piece in
     let same : s.behind + length piece - length (s.unread ++ piece) ≡ start s = omega (arith, all, b.within) in
@@ -188,6 +208,7 @@ before_more cert ls s piece e b p t =
       held = ap (λ (j : ℕ). drop j cert) same ∙ b.held ∙ ap (λ (w : List ℕ). s.unread ++ w) tail ∙ sym (append_assoc s.unread piece (drop (s.behind + length piece) cert));
       ended = λ i. sym (drop-drop (length piece) s.behind cert) ∙ ap (drop (length piece)) (p.some (t i)) ∙ drop_of_length-le [] (omega arith);
       lines = ap (λ (j : ℕ). lines_of (drop j cert)) same ∙ b.lines;
+      short = b.short;
     }
 
 -- back at the mark of a place before some lines, the place is before these again
@@ -195,17 +216,18 @@ pub before_again : (cert : List ℕ) (ls : List (List ℕ)) (s : Spot) (m : Mark
 before_again cert ls s m b i = record {
   few = b.few;
   within = omega arith;
-  reached = omega (arith, i.at, b.reached);
+  reached = omega (arith, i, b.reached);
   held = ap (λ (j : ℕ). drop j cert) (nothing_less m.at);
   ended = λ t. absurd (true≢false (sym t));
-  lines = ap (λ (j : ℕ). lines_of (drop j cert)) (nothing_less m.at ∙ i.at) ∙ b.lines;
+  lines = ap (λ (j : ℕ). lines_of (drop j cert)) (nothing_less m.at ∙ i) ∙ b.lines;
+  short = b.short;
 } where
   nothing_less : (n : ℕ) → n - 0 ≡ n
   nothing_less n = omega arith
 
 -- at the certificate's beginning
-pub before_all : (cert : List ℕ) (ls : List (List ℕ)) → length cert ≤ most_bytes → lines_of cert ≡ ls → IsBefore cert ls (record { unread = []; behind = 0; ended = false; size = None; lines = 0 })
-before_all cert ls h e = record { few = h; within = omega arith; reached = omega arith; held = refl; ended = λ t. absurd (true≢false (sym t)); lines = e }
+pub before_all : (cert : List ℕ) (ls : List (List ℕ)) → length cert ≤ most_bytes → lines_of cert ≡ ls → AreShort ls → IsBefore cert ls (record { unread = []; behind = 0; ended = false; size = None })
+before_all cert ls h e short = record { few = h; within = omega arith; reached = omega arith; held = refl; ended = λ t. absurd (true≢false (sym t)); lines = e; short = short }
 
 -- ---- as the code cuts
 

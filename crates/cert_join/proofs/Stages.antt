@@ -15,7 +15,7 @@ use Rattle.cert_joined.specs.Joined.{Joins}
 use Rattle.cert_joined.specs.Covers.{Cover, Lemma, IsTextOf, AreTextsOf, IsShaped, joined_version, lemmas_lines, line_by, numbered, number_at, tree_by, trees_by, versions}
 use Rattle.cert_join.specs.Ahead.{AreBefore}
 use Rattle.cert_join.specs.Spot.{Spot, IsBefore}
-use Rattle.cert_join.specs.Gathered.{AreDistinct, Meeting, is_in, lists_of, numbers_at, parts_of, spot_at}
+use Rattle.cert_join.specs.Gathered.{AllThere, AreDistinct, Meeting, is_in, lists_of, numbers_at, parts_of, spot_at}
 use Rattle.cert_join.specs.Due.{AreSpelled, Course, IsDue, IsNextDue, lines_at, rule_texts, stacked, tree_text, trees_at}
 use Rattle.cert_join.specs.Heads.{head_lines, head_text}
 use Rattle.cert_join.specs.Joining.{AreAtLemmas, AreAtNumbers, AreAtTrees, AreLemmasWritten, AreSettled, IsFirstOf, IsJoinText, first_numbers, lines_before_tree}
@@ -32,6 +32,7 @@ use Rattle.cert_join.proofs.AllNumbers.{all_counted}
 use Rattle.cert_join.proofs.LemmasAll.{as_many, begun_at}
 use Rattle.cert_join.proofs.LemmasStart.{lemmas_start, lemmas_written, start_covers}
 use Rattle.cert_join.proofs.Numbers.{at_place}
+use Rattle.cert_join.proofs.Passing.{in_more}
 
 -- ---- texts
 
@@ -180,11 +181,11 @@ distinct-main : (n : ℕ) (covers : List Cover) → AreDistinct (parts_of (main_
 distinct-main n [] = tt
 distinct-main n (c ∷ covers) = (not-in n (suc n) covers (omega arith), distinct-main (suc n) covers)
 
-shaped-main : (n : ℕ) (covers : List Cover) (certs : List (List ℕ)) → AreTextsOf covers certs → AllByRecursion (λ (x : ℕ × Tree). IsShaped x.1) (main_trees n covers)
-shaped-main n [] [] h = tt
-shaped-main n (c ∷ covers) (bytes ∷ certs) h = (h.0.shaped, shaped-main (suc n) covers certs h.1)
-shaped-main n [] (bytes ∷ certs) h = absurd h
-shaped-main n (c ∷ covers) [] h = absurd h
+pub shaped_main : (n : ℕ) (covers : List Cover) (certs : List (List ℕ)) → AreTextsOf covers certs → AllByRecursion (λ (x : ℕ × Tree). IsShaped x.1) (main_trees n covers)
+shaped_main n [] [] h = tt
+shaped_main n (c ∷ covers) (bytes ∷ certs) h = (h.0.shaped, shaped_main (suc n) covers certs h.1)
+shaped_main n [] (bytes ∷ certs) h = absurd h
+shaped_main n (c ∷ covers) [] h = absurd h
 
 rules-spelled : (ls : List Line) → AllByRecursion IsSpelled (rule_lines ls) → AreSpelled ls
 rules-spelled [] h = tt
@@ -196,11 +197,11 @@ tree-spelled c bytes h =
     let tail = (all_append IsSpelled (lemmas_lines 0 c.lemmas) (tree_word ∷ (rules ++ (end_word ∷ []))) h.spelled.1.1.1.1.1).1 in
     rules-spelled (tree_lines c.tree) (all_append IsSpelled rules (end_word ∷ []) tail.1).0
 
-spelled-main : (n : ℕ) (covers : List Cover) (certs : List (List ℕ)) → AreTextsOf covers certs → AllByRecursion (λ (x : ℕ × Tree). AreSpelled (tree_lines x.1)) (main_trees n covers)
-spelled-main n [] [] h = tt
-spelled-main n (c ∷ covers) (bytes ∷ certs) h = (tree-spelled c bytes h.0, spelled-main (suc n) covers certs h.1)
-spelled-main n [] (bytes ∷ certs) h = absurd h
-spelled-main n (c ∷ covers) [] h = absurd h
+pub spelled_main : (n : ℕ) (covers : List Cover) (certs : List (List ℕ)) → AreTextsOf covers certs → AllByRecursion (λ (x : ℕ × Tree). AreSpelled (tree_lines x.1)) (main_trees n covers)
+spelled_main n [] [] h = tt
+spelled_main n (c ∷ covers) (bytes ∷ certs) h = (tree-spelled c bytes h.0, spelled_main (suc n) covers certs h.1)
+spelled_main n [] (bytes ∷ certs) h = absurd h
+spelled_main n (c ∷ covers) [] h = absurd h
 
 behind-both : (c : Cover) → behind_lemmas c ≡ rule_texts (tree_lines c.tree) ++ behind_tree
 behind-both c = map_both line_text (rule_lines (tree_lines c.tree)) (end_word ∷ []) ∙ ap (λ (ts : List (List ℕ)). ts ++ behind_tree) (rules-text (tree_lines c.tree))
@@ -230,18 +231,29 @@ get-drop [] ys (suc i) x d e = absurd (let none : [] ≡ x ∷ ys = e in cc)
 get-drop (z ∷ xs) ys zero x d e = let same : z ≡ x = cc in let rest : xs ≡ ys = cc in (same, rest)
 get-drop (z ∷ xs) ys (suc i) x d e = get-drop xs ys i x d e
 
-trees-main : (all : List (List ℕ)) (n : ℕ) (numbers : List (List ℕ)) (covers : List Cover) → drop n all ≡ numbers → length numbers ≡ length covers →
+pub trees_main : (all : List (List ℕ)) (n : ℕ) (numbers : List (List ℕ)) (covers : List Cover) → drop n all ≡ numbers → length numbers ≡ length covers →
     trees_at all (main_trees n covers) ≡ trees_by numbers covers
-trees-main all n [] [] e many = refl
-trees-main all n [] (c ∷ covers) e many = absurd (omega (arith, many))
-trees-main all n (ns ∷ numbers) [] e many = absurd (omega (arith, many))
-trees-main all n (ns ∷ numbers) (c ∷ covers) e many =
+trees_main all n [] [] e many = refl
+trees_main all n [] (c ∷ covers) e many = absurd (omega (arith, many))
+trees_main all n (ns ∷ numbers) [] e many = absurd (omega (arith, many))
+trees_main all n (ns ∷ numbers) (c ∷ covers) e many =
     let r = get-drop all numbers n ns [] e in
-    ap₂ (λ (ms : List ℕ) (ts : List Tree). tree_by (numbered ms) c.tree ∷ ts) r.0 (trees-main all (suc n) numbers covers r.1 (omega (arith, many)))
+    ap₂ (λ (ms : List ℕ) (ts : List Tree). tree_by (numbered ms) c.tree ∷ ts) r.0 (trees_main all (suc n) numbers covers r.1 (omega (arith, many)))
 
-some-main : (covers : List Cover) → 0 < length covers → 0 < length (main_trees 0 covers)
-some-main [] l = absurd (omega (arith, l))
-some-main (c ∷ covers) l = omega arith
+right-none : (b c : Bool) → c ≡ false → (b || c) ≡ b
+right-none true c e = refl
+right-none false c e = e
+
+pub some_main : (covers : List Cover) → 0 < length covers → 0 < length (main_trees 0 covers)
+some_main [] l = absurd (omega (arith, l))
+some_main (c ∷ covers) l = omega arith
+
+first-there : (n : ℕ) (spots : List Spot) → n ≤ length spots → AllThere (first_numbers n) spots
+first-there zero spots l i q = absurd (let e : false ≡ true = q in cc)
+first-there (suc n) spots l i q = elim (eqb_tells i n) [
+  | inl h ↦ omega (arith, h.1, l)
+  | inr h ↦ first-there n spots (omega (arith, l)) i (sym (right-none (is_in i (first_numbers n)) (nat_eq i n) h.0) ∙ sym (in_more i n (first_numbers n)) ∙ q)
+]
 
 -- the main trees of all are due, and the place is the first one
 pub first_due : (k : Course) (covers : List Cover) (certs : List (List ℕ)) (text : List ℕ) (spots : List Spot) → AreTextsOf covers certs → AreBefore certs (map behind_lemmas covers) spots →
@@ -251,7 +263,8 @@ first_due k covers certs text spots texts before some cert rest trees front =
     let place = main_trees 0 covers in record {
       due = place ∷ [];
       places = let z : 0 + length covers ≡ length covers = omega arith in ap (λ (ns : List ℕ). ns ∷ []) (numbers-main 0 covers ∙ ap first_numbers z);
-      good = (record { some = some-main covers some; distinct = distinct-main 0 covers; shaped = shaped-main 0 covers certs texts; spelled = spelled-main 0 covers certs texts }, tt);
+      there = (first-there (length covers) spots (omega (arith, as_many certs (map behind_lemmas covers) spots before, length-map covers behind_lemmas)), tt);
+      good = (record { some = some_main covers some; distinct = distinct-main 0 covers; shaped = shaped_main 0 covers certs texts; spelled = spelled_main 0 covers certs texts }, tt);
       stand = λ i l.
           let z : 0 + i ≡ i = omega arith in
           let e : lines_at (0 + i) place ++ behind_tree ≡ (lines_at i place ++ []) ++ k.rest i = ap (λ (j : ℕ). lines_at j place ++ behind_tree) z ∙ ap₂ (λ (xs ys : List (List ℕ)). xs ++ ys) (sym (append-nil (lines_at i place))) (sym (rest i)) in
@@ -285,7 +298,7 @@ trees_start certs first others done old text numbers t count spots texts h e man
     let covers : List Cover = first ∷ others in
     let k = course_of certs first covers done numbers h.settled in
     let size : count ≡ length covers = many ∙ as_many certs (map behind_lemmas covers) spots h.before ∙ length-map covers behind_lemmas in
-    let trees : k.trees ≡ trees_at numbers (main_trees 0 covers) = sym (trees-main numbers 0 numbers covers refl h.settled.many) in
+    let trees : k.trees ≡ trees_at numbers (main_trees 0 covers) = sym (trees_main numbers 0 numbers covers refl h.settled.many) in
     let front : done ++ text ≡ k.front =
     ap (λ (xs : List ℕ). done ++ xs) e ∙ sym (append_assoc done old (text_of (tree_word ∷ []))) ∙ ap (λ (xs : List ℕ). xs ++ text_of (tree_word ∷ [])) (sym h.whole) in
     let due : IsDue k (first_numbers (length covers) ∷ []) text spots = first_due k covers certs text spots texts h.before (omega arith) (λ i. refl) (λ i. refl) trees front in
@@ -314,7 +327,7 @@ lemmas_begun certs first covers done old new h n numbers spots texts none more a
       settled = record { alike = a.alike; lemmas = d.lemmas; many = many; few = λ i k. omega (arith, below i k, states, few) };
       left = all_left [] covers;
       same = start_covers covers;
-      due = lemmas_start covers certs N spots texts d.ahead many;
+      due = lemmas_start covers certs N spots texts d.ahead many d.long;
       whole = front_text covers first xs (head_text h) n.count a.text d.count
           ∙ ap₂ (λ (s t : List ℕ). s ++ t) (sym (begun_with done old new (head_text h ++ text_of (cover n.count ∷ [])) none more)) (sym (lemmas_written covers N many));
     })

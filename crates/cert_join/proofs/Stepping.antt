@@ -1,5 +1,5 @@
 -- Steps from place to place, and within the tree of one certificate.
-use Rattle.std.proofs.Common.{◌≡◌, ◌<◌, ℕ, suc, zero, List, [], ◌∷◌, ◌++◌, length, map, get_or, set, reverse, Bool, true, false, cond, Vec, nat_eq, inl, inr, refl, sym, ap, subst, ◌∙◌, arith, append_assoc, length-set}
+use Rattle.std.proofs.Common.{◌≡◌, ◌<◌, ◌≤◌, ℕ, suc, zero, List, [], ◌∷◌, ◌++◌, length, map, get_or, set, reverse, Bool, true, false, cond, Vec, nat_eq, inl, inr, refl, sym, ap, subst, ◌∙◌, arith, append_assoc, length-set}
 use Rattle.std.proofs.lemmas.Bool.{ne_eqb, eq-eqb, cases_eq}
 use Rattle.std.proofs.lemmas.List.{append-nil, map-append, reverse-append}
 use Rattle.cover_model.specs.Rules.{Line}
@@ -7,7 +7,7 @@ use Rattle.cert_join.specs.Spot.{Spot, IsBefore}
 use Rattle.cert_join.specs.Gathered.{spot_at, Stand, AreResized, Meeting, parts_of, numbers_at, lists_of}
 use Rattle.cert_join.specs.Due.{rule_texts, text_by, lines_due, AreTreesOf, IsCopying, Yields, Course, IsWhole, IsDue, IsDueBehind, stacked}
 use Rattle.cert_join.proofs.Copying.{resized}
-use Rattle.cert_join.proofs.Passing.{read_spot, spot_same, spot_other}
+use Rattle.cert_join.proofs.Passing.{one_below, read_spot, spot_same, spot_other, there_moved}
 
 -- ---- the stack
 
@@ -24,7 +24,7 @@ stand-resized : (cert : ℕ → List ℕ) (ahead : ℕ → List (List ℕ)) (s t
 stand-resized cert ahead s t r stand i n = resized (cert i) (ahead i) (spot_at s i) (spot_at t i) (r.each i) (stand i (omega (arith, r.count)))
 
 pub due_resized : (k : Course) (parts : List (List ℕ)) (text : List ℕ) (s t : List Spot) → AreResized s t → IsDue k parts text s → IsDue k parts text t
-due_resized k parts text s t r d = record { due = d.due; places = d.places; good = d.good; stand = stand-resized k.cert _ s t r d.stand; whole = d.whole }
+due_resized k parts text s t r d = record { due = d.due; places = d.places; there = there_moved parts s t r.count d.there; good = d.good; stand = stand-resized k.cert _ s t r d.stand; whole = d.whole }
 
 -- ---- all is over
 
@@ -57,6 +57,7 @@ module _ (k : Course) (part w w' : ℕ) (parts : List (List ℕ)) (text text' : 
         spelled = c.spelled;
         due = d.due;
         places = d.places;
+        there = there_moved ((part ∷ []) ∷ parts) s (set s part t) (length-set s part t) d.there;
         good = d.good;
         stand = λ i m. elim (cases_eq i part) [
           | inl e ↦ let R : ℕ → Type 0 = λ j. B (nat_eq j part) c.lines j (spot_at (set s part t) j) in
@@ -89,6 +90,7 @@ copied_all k part w parts text s e d =
     record {
       due = d.due;
       places = d.places;
+      there = d.there.1;
       good = d.good;
       stand = λ i n. let P : List (List ℕ) → Type 0 = λ z. IsBefore (k.cert i) (z ++ (lines_due i d.due ++ k.rest i)) (spot_at s i) in
           subst P (ap (λ z. cond (nat_eq i part) (rule_texts z) []) none ∙ cond-none (nat_eq i part)) (d.stand i n);
@@ -102,10 +104,20 @@ numbers_read [] p d h = absurd (omega arith)
 numbers_read (v ∷ vs) zero d h = refl
 numbers_read (v ∷ vs) (suc p) d h = numbers_read vs p d (omega arith)
 
-pub copied_read : {Z : Type 0} (k : Course) (part w w' : ℕ) (parts : List (List ℕ)) (text text' : List ℕ) (s : List Spot) (r t : Spot) (vs : List (Vec ℕ Z)) (v : Vec ℕ Z) (numbers : List ℕ) → k.numbers ≡ lists_of vs → part < length s → part < length vs →
-    numbers ≡ (get_or vs part v).items → IsDueBehind k part w parts text s →
+pub numbers_none : {Z : Type 0} (vs : List (Vec ℕ Z)) (p : ℕ) → length vs ≤ p → [] ≡ numbers_at (lists_of vs) p
+numbers_none [] zero h = refl
+numbers_none [] (suc p) h = refl
+numbers_none (v ∷ vs) zero h = absurd (omega (arith, h))
+numbers_none (v ∷ vs) (suc p) h = numbers_none vs p (omega (arith, h))
+
+pub copied_read : {Z : Type 0} (k : Course) (part w w' : ℕ) (parts : List (List ℕ)) (text text' : List ℕ) (s : List Spot) (r t : Spot) (vs : List (Vec ℕ Z)) (numbers : List ℕ) → k.numbers ≡ lists_of vs → part < length s →
+    numbers ≡ numbers_at (lists_of vs) part → IsDueBehind k part w parts text s →
     ((cert : List ℕ) (rest : List (List ℕ)) (whole : List ℕ) → IsCopying cert numbers rest whole w text (get_or s part r) → IsCopying cert numbers rest whole w' text' t) →
     IsDueBehind k part w' parts text' (set s part t)
-copied_read k part w w' parts text text' s r t vs v numbers same n m e d copies =
+copied_read k part w w' parts text text' s r t vs numbers same n e d copies =
     let P : Spot → Type 0 = λ x. (cert : List ℕ) (rest : List (List ℕ)) (whole : List ℕ) → IsCopying cert numbers rest whole w text x → IsCopying cert numbers rest whole w' text' t in
-    copied_state k part w w' parts text text' s t numbers (e ∙ numbers_read vs part v m ∙ ap (λ z. numbers_at z part) (sym same)) n d (subst P (read_spot s part r n) copies)
+    copied_state k part w w' parts text text' s t numbers (e ∙ ap (λ z. numbers_at z part) (sym same)) n d (subst P (read_spot s part r n) copies)
+
+-- the certificate is there
+pub copied_there : (k : Course) (part w : ℕ) (parts : List (List ℕ)) (text : List ℕ) (s : List Spot) → IsDueBehind k part w parts text s → length s ≤ part → ⊥
+copied_there k part w parts text s d past = let h : part < length s = one_below part s d.there.0 in absurd (omega (arith, h, past))

@@ -1,5 +1,6 @@
 -- A step within a stage: it goes on in it, or the stage is over.
 use Rattle.std.proofs.Common.{◌≡◌, ℕ, List, [], ◌++◌, Result, Ok, Err, IfOk, map, refl, ap, sym, ◌∙◌, subst, append_assoc, append-nil}
+use Rattle.std.specs.declared.alloc.AllocError.{AllocError}
 use Rattle.cover_model.specs.Derivation.{Tree}
 use Rattle.cert_joined.specs.Joined.{Joins}
 use Rattle.cert_joined.specs.Covers.{Cover}
@@ -15,7 +16,7 @@ use Rattle.cert_join.specs.declared.trees.Trees.{Trees as TreesRead}
 use Rattle.cert_join.specs.Ahead.{AreBefore}
 use Rattle.cert_join.specs.Due.{Course, IsAfter, IsNextDue, stacked, tree_text}
 use Rattle.cert_join.specs.Heads.{ReadsHeads}
-use Rattle.cert_join.specs.Joining.{AreAtLemmas, AreAtNumbers, AreAtTrees, IsAfterStep, IsAt, IsJoinText, Within}
+use Rattle.cert_join.specs.Joining.{AreAtLemmas, AreAtNumbers, AreAtTrees, IsAfterStep, IsAt, IsInMemory, IsJoinText, Within}
 use Rattle.cert_join.specs.LemmasDue.{AreLemmasDue, StepsLemmas, lemmas_due}
 use Rattle.cert_join.specs.Numbered.{ReadsLemmas}
 use Rattle.cert_join.specs.Spot.{Spot}
@@ -24,23 +25,28 @@ use Rattle.cert_join.proofs.LemmasStart.{lemmas_end}
 
 module _ (certs : List (List ℕ)) (first : Cover) (covers : List Cover) (done : List ℕ) (numbers : List (List ℕ)) where
   pub heads_step : (r : Result Step Unjoined) (text : List ℕ) (h : HeadsRead) (spots : List Spot) → done ++ text ≡ [] → ReadsHeads certs covers r h spots → Within certs first covers done r text numbers (Heads h) spots
-  heads_step (Err e) text h spots nothing reads = tt
+  heads_step (Err e) text h spots nothing reads = reads
   heads_step (Ok Over) text h spots nothing reads = (nothing, reads)
   heads_step (Ok On) text h spots nothing reads = (nothing, reads)
   heads_step (Ok (Read part)) text h spots nothing reads = (nothing, reads)
 
   pub numbering_step : (r : Result Step Unjoined) (text : List ℕ) (h : HeadsRead) (n : NumberingRead) (spots : List Spot) → done ++ text ≡ [] → AreAtNumbers certs first covers h → ReadsLemmas certs covers r n spots →
       Within certs first covers done r text numbers (Numbering h n) spots
-  numbering_step (Err e) text h n spots nothing at reads = tt
+  numbering_step (Err e) text h n spots nothing at reads = reads
   numbering_step (Ok Over) text h n spots nothing at reads = (nothing, at, reads)
   numbering_step (Ok On) text h n spots nothing at reads = (nothing, at, reads)
   numbering_step (Ok (Read part)) text h n spots nothing at reads = (nothing, at, reads)
 
-  pub ends_step : (r : Result Step Unjoined) (text : List ℕ) (part : ℕ) (is_read : _) (spots : List Spot) → IsJoinText covers (done ++ text) → Within certs first covers done r text numbers (Ends part is_read) spots
-  ends_step (Err e) text part is_read spots is = tt
-  ends_step (Ok Over) text part is_read spots is = is
-  ends_step (Ok On) text part is_read spots is = is
-  ends_step (Ok (Read p)) text part is_read spots is = is
+  pub ends_step : (r : Step) (text : List ℕ) (part : ℕ) (is_read : _) (spots : List Spot) → IsJoinText covers (done ++ text) → Within certs first covers done (Ok r) text numbers (Ends part is_read) spots
+  ends_step Over text part is_read spots is = is
+  ends_step On text part is_read spots is = is
+  ends_step (Read p) text part is_read spots is = is
+
+  -- a step that fails for want of memory alone
+  pub in_memory : (r : Result Step AllocError) (q : Result Step Unjoined) (text : List ℕ) (stage : Stage) (spots : List Spot) → IsInMemory r q →
+      IfOk r (λ step. IsAfterStep certs first covers done step text numbers stage spots) → Within certs first covers done q text numbers stage spots
+  in_memory (Ok step) q text stage spots same after = let P : Result Step Unjoined → Type 0 = λ x. Within certs first covers done x text numbers stage spots in subst P (sym same) after
+  in_memory (Err e) q text stage spots same after = let P : Result Step Unjoined → Type 0 = λ x. Within certs first covers done x text numbers stage spots in subst P (sym same) tt
 
   -- ---- lemmas
 
@@ -58,7 +64,8 @@ module _ (certs : List (List ℕ)) (first : Cover) (covers : List Cover) (done :
       whole = h.whole ∙ ap (λ (x : List ℕ). (done ++ x) ++ text_of (lemmas_due numbers s h.left)) (sym e) ∙ ap (λ (x : LemmasRead). (done ++ new) ++ text_of (lemmas_due numbers x h.left)) (sym same);
     }
 
-    pub lemmas_step : (r : Result Step Unjoined) (new : List ℕ) (s' : LemmasRead) (spots' : List Spot) → StepsLemmas certs numbers s s' h.left spots' old new r → Within certs first covers done r new numbers (Lemmas s') spots'
+    pub lemmas_step : (r : Result Step AllocError) (new : List ℕ) (s' : LemmasRead) (spots' : List Spot) → StepsLemmas certs numbers s s' h.left spots' old new r →
+        IfOk r (λ step. IsAfterStep certs first covers done step new numbers (Lemmas s') spots')
     unfolding stay-lemmas
     lemmas_step (Err e) new s' spots' steps = tt
     lemmas_step (Ok On) new s' spots' steps = record {
@@ -89,8 +96,9 @@ module _ (certs : List (List ℕ)) (first : Cover) (covers : List Cover) (done :
   trees-after old t spots h On new t' spots' after = record { settled = h.settled; course = h.course; is = h.is; due = after }
   trees-after old t spots h (Read part) new t' spots' after = record { settled = h.settled; course = h.course; is = h.is; due = after }
 
-  pub trees_step : (old : List ℕ) (t : TreesRead) (spots : List Spot) (h : AreAtTrees certs first covers done old numbers t spots) (r : Result Step Unjoined) (new : List ℕ) (t' : TreesRead) (spots' : List Spot) →
-      IfOk r (λ step. (k : Course) → k.numbers ≡ numbers → IsNextDue k t.task (stacked t.places.items) old spots → IsAfter k step t'.task (stacked t'.places.items) new spots') → Within certs first covers done r new numbers (Trees t') spots'
+  pub trees_step : (old : List ℕ) (t : TreesRead) (spots : List Spot) (h : AreAtTrees certs first covers done old numbers t spots) (r : Result Step AllocError) (new : List ℕ) (t' : TreesRead) (spots' : List Spot) →
+      IfOk r (λ step. (k : Course) → k.numbers ≡ numbers → IsNextDue k t.task (stacked t.places.items) old spots → IsAfter k step t'.task (stacked t'.places.items) new spots') →
+      IfOk r (λ step. IsAfterStep certs first covers done step new numbers (Trees t') spots')
   trees_step old t spots h (Err e) new t' spots' steps = tt
   trees_step old t spots h (Ok step) new t' spots' steps = trees-after old t spots h step new t' spots' (steps h.course h.is.numbers_are h.due)
 

@@ -14,7 +14,7 @@ use Rattle.cert_join.specs.declared.numbering.Kind.{Kind}
 use Rattle.cert_join.specs.declared.numbering.Kind.TheVariants.{Lemma as LemmaKind, No, Tree as TreeKind, Other}
 use Rattle.cert_join.specs.declared.numbering.Known.{Known}
 use Rattle.cert_join.specs.declared.numbering.Numbering.{Numbering}
-use Rattle.cert_join.specs.Numbered.{line_kind, state_text, IsKnown, IsNumbered, HaveNumbers, tail_lines, IsOther, IsBetween, IsInside, IsAt, TakesLine}
+use Rattle.cert_join.specs.Numbered.{is_tree, line_kind, state_text, IsKnown, IsNumbered, HaveNumbers, tail_lines, IsOther, IsBetween, IsInside, IsAt, TakesLine}
 use Rattle.cert_join.specs.Written.{text_of}
 
 -- ---- lists
@@ -69,10 +69,6 @@ boxes_other (l ∷ ls) h = (box_other l h.0, boxes_other ls h.1)
 rules_other : (ls : List Line) → AllByRecursion IsOther (rule_lines ls)
 rules_other [] = tt
 rules_other (l ∷ ls) = (refl, rules_other ls)
-
-abbrev is_tree : Kind → Bool
-is_tree TreeKind = true
-is_tree k = false
 
 not_tree : (k : Kind) → is_tree k ≡ false → k ≡ TreeKind → ⊥
 not_tree k h e = true≢false (sym (ap is_tree e) ∙ h)

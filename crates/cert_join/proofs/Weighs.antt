@@ -1,18 +1,18 @@
 -- Trees that are gone through line by line.
-use Rattle.std.proofs.Common.{◌≡◌, ◌<◌, ◌≤◌, ◌+◌, ◌-◌, ◌^◌, ℕ, suc, List, [], ◌∷◌, ◌++◌, append_assoc, Bool, true, false, not, ◌&&◌, ◌||◌, cond, nat_eq, Option, Some, None, MatchOption, length, min, drop, Ok, refl, ap, sym, ◌∙◌, subst, inl, inr, arith}
+use Rattle.std.proofs.Common.{◌≡◌, ◌<◌, ◌≤◌, ◌+◌, ◌-◌, ◌^◌, ℕ, suc, List, [], ◌∷◌, ◌++◌, append_assoc, Bool, true, false, not, ◌&&◌, ◌||◌, cond, nat_eq, Option, Some, None, MatchOption, length, min, drop, refl, ap, sym, ◌∙◌, subst, inl, inr, arith}
 use Rattle.std.specs.List.{AllByRecursion}
 use Rattle.std.proofs.lemmas.Bool.Decides.{nat_tests}
 use Rattle.std.proofs.lemmas.List.{append-nil, length-append, length-drop}
 use Rattle.cover_model.specs.Rules.{Line}
 use Rattle.cover_model.specs.Derivation.{Tree, leaf, then, fork, tree_lines}
-use Rattle.cert_read.specs.Lines.{lines_of, split_at, onto_first, without_last_empty, longest_line}
+use Rattle.cert_read.specs.Lines.{lines_of, split_at, onto_first, without_last_empty}
 use Rattle.cert_read.specs.LineText.{IsSpelled}
 use Rattle.cert_model.specs.Written.{rule_lines}
 use Rattle.cert_joined.specs.Joined.{closes, first_line}
 use Rattle.cert_joined.specs.Covers.{ends, goes_on, splits, IsShaped}
 use Rattle.cert_join.specs.declared.cursor.Mark.{Mark}
 use Rattle.cert_join.specs.declared.line.Left.{Left}
-use Rattle.cert_join.specs.declared.line.Left.TheVariants.{Nothing, One, Two, Open, Stuck}
+use Rattle.cert_join.specs.declared.line.Left.TheVariants.{Nothing, One, Two, Open, Stuck, Unknown}
 use Rattle.cert_join.specs.declared.weighing.Weighing.{Weighing}
 use Rattle.cert_join.specs.Kinds.{left_kind, rule_text, arity_of, does_stay, waiting_behind}
 use Rattle.cert_join.specs.Spot.{Spot, IsBefore, IsMark, start}
@@ -67,11 +67,6 @@ fit_below (leaf l) h = tt
 fit_below (then l t) h = ((h.0.1, h.1.1), tt)
 fit_below (fork l t u) h = let r = spelled-parts (tree_lines t) (tree_lines u) h.1.1 in ((h.0.1, r.0), ((h.0.2, r.1), tt))
 
-pub fit_first : (t : Tree) → IsFit t → length (rule_text (first_line t)) ≤ longest_line
-fit_first (leaf l) h = h.1.0.1
-fit_first (then l t) h = h.1.0.1
-fit_first (fork l t u) h = h.1.0.1
-
 -- ---- how many there are
 
 at_least : (ts : List Tree) → length ts ≤ length (forest_texts ts)
@@ -114,6 +109,7 @@ ends_less One n h = cc
 ends_less Two n h = cc
 ends_less Open n h = refl
 ends_less Stuck n h = refl
+ends_less Unknown n h = refl
 
 on_same : (k : Left) (n : ℕ) → arity_of k ≡ goes_on → (waiting_behind k n ≡ n) × (does_stay k ≡ false)
 on_same Nothing n h = absurd (cc)
@@ -121,6 +117,7 @@ on_same One n h = (refl, refl)
 on_same Two n h = absurd (cc)
 on_same Open n h = absurd (cc)
 on_same Stuck n h = absurd (cc)
+on_same Unknown n h = absurd (cc)
 
 splits_more : (k : Left) (n : ℕ) → arity_of k ≡ splits → (waiting_behind k n ≡ min (n + 1) (2 ^ 64 - 1)) × (does_stay k ≡ false)
 splits_more Nothing n h = absurd (cc)
@@ -128,6 +125,7 @@ splits_more One n h = absurd (cc)
 splits_more Two n h = (refl, refl)
 splits_more Open n h = absurd (cc)
 splits_more Stuck n h = absurd (cc)
+splits_more Unknown n h = absurd (cc)
 
 -- as many states wait as trees are left
 waits : (t : Tree) (ts : List Tree) → IsShaped t → length (below t ++ ts) ≤ 2 ^ 64 - 1 → waiting_behind (left_kind (first_line t)) (suc (length ts)) ≡ length (below t ++ ts)
@@ -178,7 +176,7 @@ marks cert b left s (Some n) m before at is = subst (IsMarkOf cert b) (sym is) a
 
 -- more has to be read first
 pub read_first : (cert : List ℕ) (b : Branch) (left : List Tree) (w : Weighing) (s s' : Spot) (m : Mark) (part : ℕ) → IsWithin cert b left w → IsBefore cert (forest_texts left ++ b.behind) s
-    → IsBefore cert (forest_texts left ++ b.behind) s' → MatchOption w.mark (IsMark s m) (λ n. m ≡ n) → IsGone cert b w (record w { mark = Some m }) s' (Ok (Read part))
+    → IsBefore cert (forest_texts left ++ b.behind) s' → MatchOption w.mark (IsMark s m) (λ n. m ≡ n) → IsGone cert b w (record w { mark = Some m }) s' (Read part)
 read_first cert b left w s s' m part h before before' is = inl (
   left,
   record { fit = h.fit; waiting = h.waiting; some = h.some; leaves = h.leaves; mark = marks cert b left s w.mark m before h.mark is },
@@ -189,8 +187,8 @@ read_first cert b left w s s' m part h before before' is = inl (
 -- a line was passed
 pub step_on : (cert : List ℕ) (b : Branch) (left : List Tree) (w : Weighing) (s s' : Spot) (m : Mark) (k : Left) → IsWithin cert b left w → IsBefore cert (forest_texts left ++ b.behind) s
     → MatchOption w.mark (IsMark s m) (λ n. m ≡ n)
-    → ((r : Line) (ls : List (List ℕ)) → IsBefore cert (rule_text r ∷ ls) s → length (rule_text r) ≤ longest_line → (k ≡ left_kind r) × IsBefore cert ls s')
-    → IsGone cert b w (behind_next b.part m k (record w { mark = Some m })) s' (Ok On)
+    → ((r : Line) (ls : List (List ℕ)) → IsBefore cert (rule_text r ∷ ls) s → (k ≡ left_kind r) × IsBefore cert ls s')
+    → IsGone cert b w (behind_next b.part m k (record w { mark = Some m })) s' On
 step_on cert b [] w s s' m k h before is next = absurd (omega (arith, h.some))
 step_on cert b (t ∷ ts) w s s' m k h before is next = by_left (below t ++ ts) refl where
   begins : IsMarkOf cert b m
@@ -199,7 +197,6 @@ step_on cert b (t ∷ ts) w s s' m k h before is next = by_left (below t ++ ts) 
   passes : (k ≡ left_kind (first_line t)) × IsBefore cert (forest_texts (below t ++ ts) ++ b.behind) s'
   passes =
       next (first_line t) (forest_texts (below t ++ ts) ++ b.behind) (subst (λ (ls : List (List ℕ)). IsBefore cert ls s) (forest_first t ts b.behind) before)
-      (fit_first t h.fit.0)
 
   waiting : waiting_behind k w.waiting ≡ length (below t ++ ts)
   waiting =
@@ -216,11 +213,11 @@ step_on cert b (t ∷ ts) w s s' m k h before is next = by_left (below t ++ ts) 
   lined : Weighing
   lined = behind_line k (record w { mark = Some m })
 
-  by_test : (test : Bool) → nat_eq (waiting_behind k w.waiting) 0 ≡ test → IsGone cert b w (cond test (behind_tree b.part m lined) lined) s' (Ok On)
-      → IsGone cert b w (behind_next b.part m k (record w { mark = Some m })) s' (Ok On)
-  by_test test e g = subst (λ (x : Bool). IsGone cert b w (cond x (behind_tree b.part m lined) lined) s' (Ok On)) (sym e) g
+  by_test : (test : Bool) → nat_eq (waiting_behind k w.waiting) 0 ≡ test → IsGone cert b w (cond test (behind_tree b.part m lined) lined) s' On
+      → IsGone cert b w (behind_next b.part m k (record w { mark = Some m })) s' On
+  by_test test e g = subst (λ (x : Bool). IsGone cert b w (cond x (behind_tree b.part m lined) lined) s' On) (sym e) g
 
-  by_left : (us : List Tree) → (below t ++ ts) ≡ us → IsGone cert b w (behind_next b.part m k (record w { mark = Some m })) s' (Ok On)
+  by_left : (us : List Tree) → (below t ++ ts) ≡ us → IsGone cert b w (behind_next b.part m k (record w { mark = Some m })) s' On
   by_left [] e =
       by_test true (zero_test (waiting_behind k w.waiting) (waiting ∙ ap length e)) (inr (
         m,
@@ -238,11 +235,3 @@ step_on cert b (t ∷ ts) w s s' m k h before is next = by_left (below t ++ ts) 
         passes.1,
         refl,
       ))
-
--- the next line is one of the tree, which is not refused
-pub fails : (cert : List ℕ) (b : Branch) (left : List Tree) (w : Weighing) (s : Spot) → IsWithin cert b left w → IsBefore cert (forest_texts left ++ b.behind) s
-    → ((r : Line) (ls : List (List ℕ)) → IsBefore cert (rule_text r ∷ ls) s → length (rule_text r) ≤ longest_line → ⊥) → ⊥
-fails cert b [] w s h before never = absurd (omega (arith, h.some))
-fails cert b (t ∷ ts) w s h before never =
-    never (first_line t) (forest_texts (below t ++ ts) ++ b.behind) (subst (λ (ls : List (List ℕ)). IsBefore cert ls s) (forest_first t ts b.behind) before)
-    (fit_first t h.fit.0)

@@ -17,7 +17,7 @@ use Rattle.cert_join.specs.declared.weighing.Weighing.{Weighing}
 use Rattle.cert_join.specs.Kinds.{rule_text}
 use Rattle.cert_join.specs.Weighed.{Branch, IsWeighing}
 use Rattle.cert_join.specs.Spot.{Spot, IsBefore, line_in}
-use Rattle.cert_join.specs.Gathered.{Meeting, parts_of, does_leave, numbers_at, lists_of, AreDistinct, AreNext, AllReady, ArePassed, Stand, spot_at, text_at}
+use Rattle.cert_join.specs.Gathered.{Meeting, parts_of, does_leave, numbers_at, lists_of, AreDistinct, AreNext, AreThere, AllReady, ArePassed, Stand, spot_at, text_at}
 
 -- ---- a certificate's tree that is copied
 
@@ -102,6 +102,7 @@ IsWhole k text = (u : Tree) × Joins k.trees u × (k.done ++ text ≡ k.front ++
 pub record IsDue (k : Course) (parts : List (List ℕ)) (text : List ℕ) (spots : List Spot) : Type 0 where
   pub due : List Meeting
   pub places : map parts_of due ≡ parts
+  pub there : AreThere parts spots
   pub good : AllByRecursion IsMeeting due
   pub stand : Stand k.cert (λ i. lines_due i due ++ k.rest i) spots
   pub whole : (out : List ℕ) → Yields k.numbers due out → IsWhole k (text ++ out)
@@ -115,6 +116,7 @@ pub record IsDueBehind (k : Course) (part waiting : ℕ) (parts : List (List ℕ
   pub spelled : AreSpelled lines
   pub due : List Meeting
   pub places : map parts_of due ≡ parts
+  pub there : AreThere ((part ∷ []) ∷ parts) spots
   pub good : AllByRecursion IsMeeting due
   pub stand : Stand k.cert (λ i. cond (nat_eq i part) (rule_texts lines) [] ++ (lines_due i due ++ k.rest i)) spots
   pub whole : (out : List ℕ) → Yields k.numbers due out → IsWhole k (text ++ (text_by (numbers_at k.numbers part) lines ++ out))
@@ -126,6 +128,7 @@ pub record IsHere (k : Course) (now : List ℕ) (parts : List (List ℕ)) (text 
   pub due : List Meeting
   pub here : parts_of (first ∷ others) ≡ now
   pub places : map parts_of due ≡ parts
+  pub there : AreThere (now ∷ parts) spots
   pub met : IsMeeting (first ∷ others)
   pub good : AllByRecursion IsMeeting due
   pub next : AreNext spots (first ∷ others)
@@ -152,8 +155,8 @@ pub record IsDueWeighed (k : Course) (w : Weighing) (parts : List (List ℕ)) (t
   pub behind : taken.behind ≡ lines_due taken.part due ++ k.rest taken.part
   pub shaped : IsShaped taken.tree
   pub spelled : AreSpelled (tree_lines taken.tree)
-  pub there : taken.part < length spots
   pub places : map parts_of due ≡ parts
+  pub there : AreThere ((taken.part ∷ []) ∷ parts) spots
   pub good : AllByRecursion IsMeeting due
   pub whole : (out : List ℕ) → Yields k.numbers due out → IsWhole k (text ++ (text_by (numbers_at k.numbers taken.part) (tree_lines taken.tree) ++ out))
 
@@ -182,6 +185,5 @@ with_behind k now parts = parts
 
 -- The next line of one certificate was appended, and those of these passed.
 pub record AreTaken (numbers : List (List ℕ)) (part : ℕ) (parts : List ℕ) (text : List ℕ) (spots : List Spot) (more : List ℕ) (new : List Spot) : Type 0 where
-  pub there : part < length spots
-  pub line : (l : Line) → line_in (spot_at spots part) ≡ Some (rule_text l) → IsSpelled (rule_line l) → more ≡ text ++ (text_at numbers part l ++ (10 ∷ []))
+  pub line : part < length spots → (l : Line) → line_in (spot_at spots part) ≡ Some (rule_text l) → IsSpelled (rule_line l) → more ≡ text ++ (text_at numbers part l ++ (10 ∷ []))
   pub passed : AreDistinct parts → ArePassed parts spots new

@@ -13,7 +13,7 @@ use Rattle.cert_join.specs.Spot.{Spot, IsBefore, IsReady, line_in}
 
 -- where no certificate is
 abbrev pub nowhere : Spot
-nowhere = record { unread = []; behind = 0; ended = false; size = None; lines = 0 }
+nowhere = record { unread = []; behind = 0; ended = false; size = None }
 
 abbrev pub spot_at : List Spot → ℕ → Spot
 spot_at spots i = get_or spots i nowhere
@@ -42,6 +42,10 @@ AllReady parts spots = (i : ℕ) → i < length spots → is_in i parts ≡ true
 -- these certificates are there
 abbrev pub AllThere : List ℕ → List Spot → Type 0
 AllThere parts spots = (i : ℕ) → is_in i parts ≡ true → i < length spots
+
+-- so are those of each of these places
+abbrev pub AreThere : List (List ℕ) → List Spot → Type 0
+AreThere parts spots = AllByRecursion (λ (now : List ℕ). AllThere now spots) parts
 
 -- these are at the same places, whatever is known of their next lines
 pub record AreResized (old new : List Spot) : Type 0 where

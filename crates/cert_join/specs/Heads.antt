@@ -1,13 +1,15 @@
 -- The first five lines of certificates, which are read one after the other.
-use Rattle.std.specs.Prelude.{◌≡◌, ◌+◌, ◌*◌, ◌<◌, ◌≤◌, ◌^◌, ◌≢◌, ℕ, zero, suc, List, [], ◌∷◌, ◌++◌, Some, None, Result, Ok, Err, cond, drop, take, map, length, nat_eq, slice_get}
+use Rattle.std.specs.Prelude.{◌≡◌, ◌+◌, ◌*◌, ◌<◌, ◌≤◌, ◌^◌, ◌≢◌, ℕ, zero, suc, List, [], ◌∷◌, ◌++◌, false, Some, None, Result, Ok, Err, IsTrue, cond, drop, take, map, length, nat_eq, slice_get}
 use Rattle.std.specs.List.{AllByRecursion}
 use Rattle.cert_read.specs.CertLine.{CertLine, version, margin, delta, bound, cover}
 use Rattle.cert_read.specs.LineText.{line_text, text_of_lines}
-use Rattle.cert_joined.specs.Covers.{Cover, cover_lines, joined_version, versions}
+use Rattle.cert_model.specs.Due.{is_version}
+use Rattle.cert_joined.specs.Covers.{Cover, IsCrowded, cover_lines, joined_version, versions}
 use Rattle.cert_join.specs.declared.heads.Heads.{Heads}
 use Rattle.cert_join.specs.declared.joiner.Step.{Step}
 use Rattle.cert_join.specs.declared.joiner.Step.TheVariants.{Over}
 use Rattle.cert_join.specs.declared.stop.Unjoined.{Unjoined}
+use Rattle.cert_join.specs.declared.stop.Unjoined.TheVariants.{Memory, Unlike, Crowded}
 use Rattle.cert_join.specs.Ahead.{AreBefore}
 use Rattle.cert_join.specs.Spot.{Spot, IsBefore}
 use Rattle.cert_join.specs.Written.{texts_of, text_of, behind_header}
@@ -21,6 +23,25 @@ abbrev pub ahead_of : ℕ → ℕ → List Cover → List (List (List ℕ))
 ahead_of part row [] = []
 ahead_of zero row (c ∷ covers) = drop row (all_lines c) ∷ map all_lines covers
 ahead_of (suc part) row (c ∷ covers) = behind_header c ∷ ahead_of part row covers
+
+-- ---- covers that may be joined
+
+-- they have the first one's margin, delta and bound
+pub record AreAlike (first : Cover) (covers : List Cover) : Type 0 where
+  pub margin : AllByRecursion (λ (c : Cover). c.margin_bits ≡ first.margin_bits) covers
+  pub delta : AllByRecursion (λ (c : Cover). c.delta_bits ≡ first.delta_bits) covers
+  pub bound : AllByRecursion (λ (c : Cover). c.bound ≡ first.bound) covers
+
+-- the same of all, and each has a version that is read
+pub record AreJoinable (covers : List Cover) : Type 0 where
+  pub alike : (first : Cover) (others : List Cover) → covers ≡ first ∷ others → AreAlike first covers
+  pub versions : AllByRecursion (λ (c : Cover). IsTrue (is_version c.version)) covers
+
+-- why the covers are not joined: for want of memory, or they may not be, or have too many lemmas
+abbrev pub IsUnjoined : List Cover → Unjoined → Type 0
+IsUnjoined covers Memory = Unit {0}
+IsUnjoined covers Unlike = AreJoinable covers → ⊥
+IsUnjoined covers Crowded = IsCrowded covers
 
 -- ---- what was read
 
@@ -82,6 +103,14 @@ pub record TakesLine (line : List ℕ) (old new : Heads) : Type 0 where
   pub last : 4 ≤ old.row → (n : ℕ) → n < 2 ^ 32 → line ≡ line_text (cover n) →
       (new.point ≡ old.point) × (new.counts.items ≡ old.counts.items ++ (n ∷ []))
 
+-- the line may not stand there: no version that is read, another text than the first certificate's, no cover
+pub record IsUnlike (line : List ℕ) (h : Heads) : Type 0 where
+  pub version : h.row ≡ 0 → (n : ℕ) → n < 2 ^ 32 → line ≡ line_text (version n) → is_version n ≡ false
+  pub margin : h.row ≡ 1 → (0 < h.part) × (line ≢ h.margin.items)
+  pub delta : h.row ≡ 2 → (0 < h.part) × (line ≢ h.delta.items)
+  pub bound : h.row ≡ 3 → (0 < h.part) × (line ≢ h.bound.items)
+  pub kind : 4 ≤ h.row → (n : ℕ) → n < 2 ^ 32 → line ≢ line_text (cover n)
+
 -- the place behind a line
 abbrev pub IsBehind : Heads → Heads → Type 0
 IsBehind old new = (old.row < 4 → new ≡ record old { row = suc old.row }) × (4 ≤ old.row → new ≡ record old { part = suc old.part; row = 0 })
@@ -96,15 +125,9 @@ pub record HasReadOf (cert : List ℕ) (covers : List Cover) (c : Cover) (old ne
 abbrev pub ReadsOf : List ℕ → List Cover → Cover → Heads → Result Step Unjoined → Heads → Spot → Type 0
 ReadsOf cert covers c old (Ok Over) new s = ⊥
 ReadsOf cert covers c old (Ok x) new s = HasReadOf cert covers c old new s
-ReadsOf cert covers c old (Err e) new s = Unit {0}
+ReadsOf cert covers c old (Err e) new s = IsUnjoined covers e
 
 -- ---- all lines
-
--- they have the first one's margin, delta and bound
-pub record AreAlike (first : Cover) (covers : List Cover) : Type 0 where
-  pub margin : AllByRecursion (λ (c : Cover). c.margin_bits ≡ first.margin_bits) covers
-  pub delta : AllByRecursion (λ (c : Cover). c.delta_bits ≡ first.delta_bits) covers
-  pub bound : AllByRecursion (λ (c : Cover). c.bound ≡ first.bound) covers
 
 -- the first four lines of the certificate that joins those of covers, of which this is the first
 abbrev pub head_lines : List Cover → Cover → List CertLine
@@ -125,4 +148,4 @@ pub record AreHeadsRead (certs : List (List ℕ)) (covers : List Cover) (h : Hea
 abbrev pub ReadsHeads : List (List ℕ) → List Cover → Result Step Unjoined → Heads → List Spot → Type 0
 ReadsHeads certs covers (Ok Over) h spots = AreHeadsRead certs covers h spots
 ReadsHeads certs covers (Ok x) h spots = IsReading certs covers h spots
-ReadsHeads certs covers (Err e) h spots = Unit {0}
+ReadsHeads certs covers (Err e) h spots = IsUnjoined covers e

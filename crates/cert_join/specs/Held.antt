@@ -4,7 +4,7 @@ use Rattle.cert_join.specs.declared.cursor.Cursor.TheInside.{Inside}
 use Rattle.cert_join.specs.Spot.{Spot, IsLineSize}
 
 abbrev pub spot_of : Inside → Spot
-spot_of c = record { unread = drop c.at c.bytes.items; behind = c.behind; ended = c.ended; size = c.size; lines = c.lines }
+spot_of c = record { unread = drop c.at c.bytes.items; behind = c.behind; ended = c.ended; size = c.size }
 
 pub record IsHeld (c : Inside) : Type 0 where
   pub within : c.searched ≤ length (drop c.at c.bytes.items)

@@ -1,5 +1,6 @@
 -- How far certificates are joined: what was written, and what is ahead in each.
 use Rattle.std.specs.Prelude.{◌≡◌, ◌<◌, ◌^◌, ℕ, zero, suc, List, [], ◌∷◌, ◌++◌, Some, Result, Ok, Err, drop, length, map, get_or, slice_get}
+use Rattle.std.specs.declared.alloc.AllocError.{AllocError}
 use Rattle.cover_model.specs.Derivation.{Tree}
 use Rattle.cert_read.specs.CertLine.{CertLine, cover, tree_word}
 use Rattle.cert_joined.specs.Joined.{Joins}
@@ -11,13 +12,14 @@ use Rattle.cert_join.specs.declared.joiner.Stage.TheVariants.{Heads, Point, Numb
 use Rattle.cert_join.specs.declared.joiner.Step.{Step}
 use Rattle.cert_join.specs.declared.joiner.Step.TheVariants.{Over}
 use Rattle.cert_join.specs.declared.stop.Unjoined.{Unjoined}
+use Rattle.cert_join.specs.declared.stop.Unjoined.TheVariants.{Memory}
 use Rattle.cert_join.specs.declared.lemmas.Lemmas.{Lemmas as LemmasRead}
 use Rattle.cert_join.specs.declared.trees.Task.TheVariants.{Compare}
 use Rattle.cert_join.specs.declared.trees.Trees.{Trees as TreesRead}
 use Rattle.cert_join.specs.Ahead.{AreBefore}
 use Rattle.cert_join.specs.Due.{Course, IsNextDue, stacked, tree_text}
 use Rattle.cert_join.specs.Gathered.{lists_of, spot_at}
-use Rattle.cert_join.specs.Heads.{AreAlike, AreHeadsRead, IsReading, head_lines, head_text}
+use Rattle.cert_join.specs.Heads.{AreAlike, AreHeadsRead, IsReading, IsUnjoined, head_lines, head_text}
 use Rattle.cert_join.specs.LemmasDue.{AreLemmasDue, LemmasLeft, covers_of, lemmas_due}
 use Rattle.cert_join.specs.Numbered.{AreNumbered, IsNumbering}
 use Rattle.cert_join.specs.Spot.{IsPieceAt, Spot}
@@ -108,7 +110,12 @@ IsAfterStep certs first covers done step text numbers stage spots = IsAt certs f
 -- what a step comes to, where it answers one
 abbrev pub Within : List (List ℕ) → Cover → List Cover → List ℕ → Result Step Unjoined → List ℕ → List (List ℕ) → Stage → List Spot → Type 0
 Within certs first covers done (Ok step) text numbers stage spots = IsAfterStep certs first covers done step text numbers stage spots
-Within certs first covers done (Err e) text numbers stage spots = Unit {0}
+Within certs first covers done (Err e) text numbers stage spots = IsUnjoined covers e
+
+-- what a step comes to that fails for want of memory alone
+abbrev pub IsInMemory : Result Step AllocError → Result Step Unjoined → Type 0
+IsInMemory (Ok step) r = r ≡ Ok step
+IsInMemory (Err e) r = r ≡ Err Memory
 
 -- the same of a whole joiner
 pub record IsJoining (certs : List (List ℕ)) (first : Cover) (covers : List Cover) (done text : List ℕ) (j : Joiner) : Type 0 where
@@ -116,9 +123,10 @@ pub record IsJoining (certs : List (List ℕ)) (first : Cover) (covers : List Co
   pub at : IsAt certs first covers done text (lists_of j.numbers.items) j.stage j.cursors.items
 
 -- behind a step
-abbrev pub HasStepped : List (List ℕ) → Cover → List Cover → List ℕ → Step → List ℕ → Joiner → Type 0
-HasStepped certs first covers done Over text j = IsJoinText covers (done ++ text)
-HasStepped certs first covers done step text j = IsJoining certs first covers done text j
+abbrev pub HasStepped : List (List ℕ) → Cover → List Cover → List ℕ → Result Step Unjoined → List ℕ → Joiner → Type 0
+HasStepped certs first covers done (Ok Over) text j = IsJoinText covers (done ++ text)
+HasStepped certs first covers done (Ok step) text j = IsJoining certs first covers done text j
+HasStepped certs first covers done (Err e) text j = IsUnjoined covers e
 
 -- the bytes stand where more of the certificate with this number is read
 pub record IsPiece (certs : List (List ℕ)) (part : ℕ) (piece : List ℕ) (j : Joiner) : Type 0 where

@@ -1,13 +1,12 @@
 -- What a line of a tree leaves of its state, which its first word tells, and the lemma that it names.
-use Rattle.std.specs.Prelude.{◌≡◌, ℕ, ◌+◌, ◌-◌, ◌^◌, ◌<◌, ◌≤◌, List, [], ◌∷◌, ◌++◌, codes, decimal, Bool, true, false, min, length, Option, Some, None, Result, Ok, Err, IfSome, is_some, slice_get}
-use Rattle.std.specs.declared.alloc.AllocError.{AllocError}
+use Rattle.std.specs.Prelude.{◌≡◌, ℕ, ◌+◌, ◌-◌, ◌^◌, List, [], ◌∷◌, ◌++◌, codes, decimal, Bool, true, false, min, Option, Some, None, is_some}
 use Rattle.cover_line.specs.Words.{RuleWord, pull_word, unit_word, ban_word, push_word, cut_word, flip_word, case_word, open_word, stuck_word, combine_word}
 use Rattle.cover_model.specs.Rules.{Line, narrow_by, end_by, by_lemma, mark_by, ban_atom, branch_by, stay_by, open_state, stuck_atom}
 use Rattle.cert_read.specs.CertLine.{CertLine, rule_line}
 use Rattle.cert_read.specs.LineText.{line_text}
 use Rattle.cert_joined.specs.Covers.{Arity, ends, goes_on, splits, line_by, numbered}
 use Rattle.cert_join.specs.declared.line.Left.{Left}
-use Rattle.cert_join.specs.declared.line.Left.TheVariants.{Nothing, One, Two, Open, Stuck}
+use Rattle.cert_join.specs.declared.line.Left.TheVariants.{One, Two, Nothing, Open, Stuck}
 
 -- the bytes of a line of a tree
 abbrev pub rule_text : Line → List ℕ
@@ -81,14 +80,6 @@ lemma_front (end_by (by_lemma i)) = codes "by "
 lemma_front (mark_by (ban_atom j i)) = codes "ban " ++ (decimal j ++ (32 ∷ []))
 lemma_front l = []
 
--- the number that these give a lemma
-abbrev pub number_among : List ℕ → Option ℕ → Option ℕ
-number_among numbers None = None
-number_among numbers (Some i) = slice_get numbers i
-
--- the line behind what was there, with the number that these give its lemma, which is among them; or that it is not
-abbrev pub IsRenumbered : List ℕ → CertLine → List ℕ → List ℕ → Result Bool AllocError → Type 0
-IsRenumbered numbers l old new (Ok true) =
-    (new ≡ old ++ line_text (renumbered (numbered numbers) l)) × IfSome (lemma_named_in l) (λ i. i < length numbers)
-IsRenumbered numbers l old new (Ok false) = (i : ℕ) × (lemma_named_in l ≡ Some i) × (length numbers ≤ i)
-IsRenumbered numbers l old new (Err e) = Unit {0}
+-- the line behind what was there, with the number that these give its lemma
+abbrev pub IsRenumbered : List ℕ → CertLine → List ℕ → List ℕ → Type 0
+IsRenumbered numbers l old new = new ≡ old ++ line_text (renumbered (numbered numbers) l)

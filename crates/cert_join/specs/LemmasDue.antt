@@ -1,5 +1,5 @@
 -- What is left of the lemmas of several certificates, and what is written of them.
-use Rattle.std.specs.Prelude.{◌≡◌, ◌⊎◌, ℕ, suc, ◌+◌, List, [], ◌∷◌, ◌++◌, Bool, true, false, cond, length, map, drop, nat_eq, Some, Result, Ok, Err, slice_get, get_or}
+use Rattle.std.specs.Prelude.{◌≡◌, ◌⊎◌, ℕ, suc, ◌+◌, List, [], ◌∷◌, ◌++◌, false, cond, length, map, drop, nat_eq, Some, Result, Ok, Err, slice_get, get_or}
 use Rattle.std.specs.List.{AllByRecursion}
 use Rattle.std.specs.declared.alloc.AllocError.{AllocError}
 use Rattle.cover_model.specs.Derivation.{Tree, tree_lines}
@@ -14,7 +14,6 @@ use Rattle.cert_join.specs.Spot.{Spot, IsBefore}
 use Rattle.cert_join.specs.declared.joiner.Step.{Step}
 use Rattle.cert_join.specs.declared.joiner.Step.TheVariants.{Read, On, Over}
 use Rattle.cert_join.specs.declared.lemmas.Lemmas.{Lemmas}
-use Rattle.cert_join.specs.declared.stop.Unjoined.{Unjoined}
 
 -- ---- in one certificate
 
@@ -69,19 +68,16 @@ whole_line l = line_text l ++ (10 ∷ [])
 abbrev pub begun_with : ℕ → Lemmas → Lemmas
 begun_with n s = record s { begun = s.begun + 1; is_written = nat_eq n s.next; next = cond (nat_eq n s.next) (s.next + 1) s.next }
 
-abbrev pub IsBegun : ℕ → Lemmas → Lemmas → List ℕ → List ℕ → Result Bool AllocError → Type 0
-IsBegun n s s' old new (Ok true) = (s' ≡ begun_with n s) × (new ≡ old ++ cond (nat_eq n s.next) (whole_line (lemma n)) [])
-IsBegun n s s' old new r = Unit {0}
+abbrev pub IsBegun : ℕ → Lemmas → Lemmas → List ℕ → List ℕ → Type 0
+IsBegun n s s' old new = (s' ≡ begun_with n s) × (new ≡ old ++ cond (nat_eq n s.next) (whole_line (lemma n)) [])
 
 -- that with the number of the next lemma
-abbrev pub IsNextBegun : List ℕ → Lemmas → Lemmas → List ℕ → List ℕ → Result Bool AllocError → Type 0
-IsNextBegun numbers s s' old new (Ok true) = (n : ℕ) × (slice_get numbers s.begun ≡ Some n) × IsBegun n s s' old new (Ok true)
-IsNextBegun numbers s s' old new r = Unit {0}
+abbrev pub IsNextBegun : List ℕ → Lemmas → Lemmas → List ℕ → List ℕ → Type 0
+IsNextBegun numbers s s' old new = (n : ℕ) × (slice_get numbers s.begun ≡ Some n) × IsBegun n s s' old new
 
 -- a line of the lemma that was begun, which is written where that is
-abbrev pub IsTaken : List ℕ → CertLine → Lemmas → Lemmas → List ℕ → List ℕ → Result Bool AllocError → Type 0
-IsTaken numbers l s s' old new (Ok true) = (s' ≡ s) × (new ≡ old ++ cond s.is_written (whole_line (renumbered (numbered numbers) l)) [])
-IsTaken numbers l s s' old new r = Unit {0}
+abbrev pub IsTaken : List ℕ → CertLine → Lemmas → Lemmas → List ℕ → List ℕ → Type 0
+IsTaken numbers l s s' old new = (s' ≡ s) × (new ≡ old ++ cond s.is_written (whole_line (renumbered (numbered numbers) l)) [])
 
 -- ---- a step within one certificate
 
@@ -89,6 +85,7 @@ IsTaken numbers l s s' old new r = Unit {0}
 pub record GoesOn (cert : List ℕ) (t : Tree) (numbers : List ℕ) (s s' : Lemmas) (r : Rest) (spot : Spot) (old new : List ℕ) : Type 0 where
   pub rest : Rest
   pub is_rest : IsRest s'.begun rest
+  pub kept : s'.begun + length rest.lemmas ≡ s.begun + length r.lemmas
   pub before : IsBefore cert (texts_of (lines_ahead s'.begun rest t)) spot
   pub part : s'.part ≡ s.part
   pub written : List ℕ
@@ -110,7 +107,7 @@ pub record Waits (cert : List ℕ) (t : Tree) (s s' : Lemmas) (r : Rest) (spot :
   pub state : s' ≡ s
   pub same : new ≡ old
 
-abbrev pub StepsWithin : List ℕ → Tree → List ℕ → Lemmas → Lemmas → Rest → Spot → List ℕ → List ℕ → Result Step Unjoined → Type 0
+abbrev pub StepsWithin : List ℕ → Tree → List ℕ → Lemmas → Lemmas → Rest → Spot → List ℕ → List ℕ → Result Step AllocError → Type 0
 StepsWithin cert t numbers s s' r spot old new (Ok On) = GoesOn cert t numbers s s' r spot old new ⊎ IsBehind cert t numbers s s' r spot old new
 StepsWithin cert t numbers s s' r spot old new (Ok (Read part)) = Waits cert t s s' r spot old new
 StepsWithin cert t numbers s s' r spot old new (Ok Over) = ⊥
@@ -145,14 +142,20 @@ abbrev pub HasLemmas : Cover → Type 0
 HasLemmas c = IsRest 0 (all_lemmas c)
 
 abbrev pub IsLeft : Lemmas → LemmasLeft → Type 0
-IsLeft s (within done c r later) = (s.part ≡ length done) × IsRest s.begun r × AllByRecursion HasLemmas later
+IsLeft s (within done c r later) =
+    (s.part ≡ length done) × IsRest s.begun r × AllByRecursion HasLemmas later × (s.begun + length r.lemmas ≡ length c.lemmas)
 IsLeft s (none done) = s.part ≡ length done
+
+-- each cover has as many numbers as lemmas
+abbrev pub AreAsLong : List (List ℕ) → List Cover → Type 0
+AreAsLong numbers covers = (i : ℕ) (c : Cover) → slice_get covers i ≡ Some c → length (get_or numbers i []) ≡ length c.lemmas
 
 -- the state, and the places in the certificates, where this is left; each cover has its numbers
 pub record AreLemmasDue (certs numbers : List (List ℕ)) (f : LemmasLeft) (s : Lemmas) (spots : List Spot) : Type 0 where
   pub before : AreBefore certs (each_ahead s.begun f) spots
   pub left : IsLeft s f
   pub numbered : length numbers ≡ length (covers_of f)
+  pub long : AreAsLong numbers (covers_of f)
 
 -- the lines that are written of later covers, by their numbers
 abbrev pub later_due : ℕ → List (List ℕ) → List Cover → List CertLine
@@ -181,7 +184,7 @@ pub record LemmasStay (certs numbers : List (List ℕ)) (s s' : Lemmas) (f : Lem
   pub state : s' ≡ s
   pub same : new ≡ old
 
-abbrev pub StepsLemmas : List (List ℕ) → List (List ℕ) → Lemmas → Lemmas → LemmasLeft → List Spot → List ℕ → List ℕ → Result Step Unjoined → Type 0
+abbrev pub StepsLemmas : List (List ℕ) → List (List ℕ) → Lemmas → Lemmas → LemmasLeft → List Spot → List ℕ → List ℕ → Result Step AllocError → Type 0
 StepsLemmas certs numbers s s' f spots old new (Ok On) = LemmasGoOn certs numbers s s' f spots old new
 StepsLemmas certs numbers s s' f spots old new (Ok (Read part)) = LemmasStay certs numbers s s' f spots old new
 StepsLemmas certs numbers s s' f spots old new (Ok Over) = LemmasStay certs numbers s s' f spots old new × (f ≡ none (covers_of f))

@@ -4,10 +4,10 @@ use Rattle.std.specs.List.{AllByRecursion}
 use Rattle.std.specs.Option.{option_map}
 use Rattle.std.specs.HashMap.{get}
 use Rattle.std.specs.Str.{bytes_eq}
-use Rattle.std.specs.declared.alloc.AllocError.{AllocError}
 use Rattle.std.specs.declared.alloc.Global.{Global}
 use Rattle.std.specs.declared.vec.Vec.{Vec}
 use Rattle.cover_model.specs.Derivation.{tree_lines}
+use Rattle.cert_model.specs.Accepted.{most_lemmas}
 use Rattle.cert_model.specs.Written.{rule_lines}
 use Rattle.cert_read.specs.CertLine.{CertLine, lemma, no_list, tree_word, end_word}
 use Rattle.cert_joined.specs.Covers.{Cover, Lemma, AreAllLemmas, state_lines, lemmas_lines}
@@ -20,7 +20,9 @@ use Rattle.cert_join.specs.declared.cursor.Mark.{Mark}
 use Rattle.cert_join.specs.declared.joiner.Step.{Step}
 use Rattle.cert_join.specs.declared.joiner.Step.TheVariants.{Over}
 use Rattle.cert_join.specs.declared.stop.Unjoined.{Unjoined}
+use Rattle.cert_join.specs.declared.stop.Unjoined.TheVariants.{Memory, Unlike, Crowded}
 use Rattle.cert_join.specs.Ahead.{AreBefore}
+use Rattle.cert_join.specs.Heads.{IsUnjoined}
 use Rattle.cert_join.specs.Spot.{Spot, IsBefore, rewound}
 use Rattle.cert_join.specs.Written.{texts_of, text_of, behind_header, written_from}
 
@@ -35,6 +37,10 @@ line_kind (lemma i) = LemmaKind
 line_kind (no_list js) = No
 line_kind tree_word = TreeKind
 line_kind l = Other
+
+abbrev pub is_tree : Kind → Bool
+is_tree TreeKind = true
+is_tree k = false
 
 -- ---- states
 
@@ -176,10 +182,22 @@ pub record StaysInPart (cert : List ℕ) (before : List (List ℕ)) (c : Cover) 
   pub lists : new.numbers ≡ old.numbers
   pub reading : IsReadingPart cert before c new s
 
+-- with some of its lemmas there are too many states
+pub record IsPartCrowded (before : List (List ℕ)) (c : Cover) : Type 0 where
+  pub own : List ℕ
+  pub done : List Lemma
+  pub due : List Lemma
+  pub known : List (List ℕ)
+  pub lemmas : c.lemmas ≡ done ++ due
+  pub numbers : HaveNumbers before own done known
+  pub many : most_lemmas < length known
+
 abbrev pub ReadsPart : List ℕ → List (List ℕ) → Cover → Numbering → Result Step Unjoined → Numbering → Spot → Type 0
 ReadsPart cert before c old (Ok Over) new s = ⊥
 ReadsPart cert before c old (Ok x) new s = StaysInPart cert before c old new s ⊎ IsPartRead cert before c old new s
-ReadsPart cert before c old (Err e) new s = Unit {0}
+ReadsPart cert before c old (Err Crowded) new s = IsPartCrowded before c
+ReadsPart cert before c old (Err Memory) new s = Unit {0}
+ReadsPart cert before c old (Err Unlike) new s = ⊥
 
 -- what ends a certificate
 pub record EndsPart (old new : Numbering) : Type 0 where
@@ -191,16 +209,13 @@ pub record EndsPart (old new : Numbering) : Type 0 where
   pub count : new.count ≡ new.known.count
   pub lists : new.numbers.items ≡ old.numbers.items ++ (old.own ∷ [])
 
--- a line of this kind, which begins no lemma, stands in a state or behind one
-abbrev pub MayStand : Kind → Numbering → Type 0
-MayStand kind n = kind ≢ LemmaKind → n.is_in_state ≡ false → 0 < length n.own.items
-
--- what is taken of a line: none that may not stand there
-abbrev pub TakesNext : Kind → List ℕ → Numbering → Result (Option Kind) AllocError → Numbering → Type 0
-TakesNext kind line old (Ok (Some TreeKind)) new = (kind ≡ TreeKind) × EndsPart old new
-TakesNext kind line old (Ok (Some found)) new =
-    (kind ≢ TreeKind) × TakesLine kind line old new × (new.known.count ≤ 1048576) × MayStand kind old
-TakesNext kind line old x new = Unit {0}
+-- what is taken of a line: there are too many states with it, or not
+abbrev pub TakesNext : Kind → List ℕ → Numbering → Result Kind Unjoined → Numbering → Type 0
+TakesNext kind line old (Ok TreeKind) new = (kind ≡ TreeKind) × EndsPart old new
+TakesNext kind line old (Ok found) new = (kind ≢ TreeKind) × TakesLine kind line old new × (new.known.count ≤ 1048576)
+TakesNext kind line old (Err Crowded) new = (kind ≢ TreeKind) × TakesLine kind line old new × (1048576 < new.known.count)
+TakesNext kind line old (Err Memory) new = Unit {0}
+TakesNext kind line old (Err Unlike) new = ⊥
 
 -- ---- all certificates
 
@@ -255,4 +270,4 @@ pub record AreNumbered (certs : List (List ℕ)) (covers : List Cover) (n : Numb
 abbrev pub ReadsLemmas : List (List ℕ) → List Cover → Result Step Unjoined → Numbering → List Spot → Type 0
 ReadsLemmas certs covers (Ok Over) n spots = AreNumbered certs covers n spots
 ReadsLemmas certs covers (Ok x) n spots = IsNumbering certs covers n spots
-ReadsLemmas certs covers (Err e) n spots = Unit {0}
+ReadsLemmas certs covers (Err e) n spots = IsUnjoined covers e

@@ -1,5 +1,5 @@
 -- The trees that several certificates have at one place, gone through one after the other, and the one that is taken.
-use Rattle.std.specs.Prelude.{◌≡◌, ◌≢◌, ◌+◌, ◌<◌, ◌^◌, ◌-◌, ℕ, List, [], ◌∷◌, ◌++◌, Bool, true, false, cond, not, ◌&&◌, ◌||◌, ◌⊎◌, Option, Some, None, Result, Ok, Err, MatchOption, map, length, drop, min, get_or, nat_eq, slice_get, slice_set}
+use Rattle.std.specs.Prelude.{◌≡◌, ◌≢◌, ◌+◌, ◌<◌, ◌^◌, ◌-◌, ℕ, List, [], ◌∷◌, ◌++◌, Bool, true, false, cond, not, ◌&&◌, ◌||◌, ◌⊎◌, Option, Some, None, MatchOption, map, length, drop, min, get_or, nat_eq, slice_get, slice_set}
 use Rattle.std.specs.List.{AllByRecursion}
 use Rattle.cover_model.specs.Rules.{Line}
 use Rattle.cover_model.specs.Derivation.{Tree, tree_lines}
@@ -11,7 +11,6 @@ use Rattle.cert_join.specs.declared.cursor.Mark.{Mark}
 use Rattle.cert_join.specs.declared.joiner.Step.{Step}
 use Rattle.cert_join.specs.declared.joiner.Step.TheVariants.{Over}
 use Rattle.cert_join.specs.declared.line.Left.{Left}
-use Rattle.cert_join.specs.declared.stop.Unjoined.{Unjoined}
 use Rattle.cert_join.specs.declared.weighing.Weighing.{Weighing}
 use Rattle.cert_join.specs.Ahead.{AreBefore}
 use Rattle.cert_join.specs.Kinds.{left_kind, rule_text, does_stay, waiting_behind}
@@ -121,18 +120,16 @@ pub record IsWeighed (certs : List (List ℕ)) (taken : Branch) (end : List (Lis
   pub before : AreBefore certs end spots
   pub choosing : IsChoosing certs taken [] w.first w.closed
 
-abbrev pub IsWeighStep : List (List ℕ) → Branch → List (List (List ℕ)) → Weighing → List Spot → Result Step Unjoined → Type 0
-IsWeighStep certs taken end w spots (Ok Over) = IsWeighed certs taken end w spots
-IsWeighStep certs taken end w spots (Ok step) = IsWeighing certs taken end w spots
-IsWeighStep certs taken end w spots (Err e) = ⊥
+abbrev pub IsWeighStep : List (List ℕ) → Branch → List (List (List ℕ)) → Weighing → List Spot → Step → Type 0
+IsWeighStep certs taken end w spots Over = IsWeighed certs taken end w spots
+IsWeighStep certs taken end w spots step = IsWeighing certs taken end w spots
 
 -- ---- a line
 
 -- what is said of the next line, which is this one: what it leaves, and it is known; or it has to be read first
-abbrev pub IsLeft : Line → Spot → Result (Option Left) Unjoined → Type 0
-IsLeft r s (Ok (Some k)) = (k ≡ left_kind r) × (line_in s ≡ Some (rule_text r))
-IsLeft r s (Ok None) = Unit {0}
-IsLeft r s (Err e) = ⊥
+abbrev pub IsLeft : Line → Spot → Option Left → Type 0
+IsLeft r s (Some k) = (k ≡ left_kind r) × (line_in s ≡ Some (rule_text r))
+IsLeft r s None = Unit {0}
 
 -- behind a line that leaves this
 abbrev pub behind_line : Left → Weighing → Weighing
@@ -157,10 +154,9 @@ abbrev pub behind_next : ℕ → Mark → Left → Weighing → Weighing
 behind_next part m k w = cond (nat_eq (waiting_behind k w.waiting) 0) (behind_tree part m (behind_line k w)) (behind_line k w)
 
 -- a step in this tree: it goes on in it, or is behind it
-abbrev pub IsGone : List ℕ → Branch → Weighing → Weighing → Spot → Result Step Unjoined → Type 0
-IsGone cert b old new s (Ok Over) = ⊥
-IsGone cert b old new s (Ok step) =
+abbrev pub IsGone : List ℕ → Branch → Weighing → Weighing → Spot → Step → Type 0
+IsGone cert b old new s Over = ⊥
+IsGone cert b old new s step =
     ((left : List Tree) × IsWithin cert b left new × IsBefore cert (forest_texts left ++ b.behind) s × (new ≡ record old { waiting = new.waiting; mark = new.mark; leaves = new.leaves })) ⊎
     ((m : Mark) × (w : Weighing) × IsMarkOf cert b m × IsBefore cert b.behind s × (closes b.tree ≡ not w.leaves) × (new ≡ behind_tree b.part m w) ×
     (w ≡ record old { waiting = w.waiting; mark = w.mark; leaves = w.leaves }))
-IsGone cert b old new s (Err e) = ⊥

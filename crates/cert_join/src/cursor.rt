@@ -1,8 +1,7 @@
 // A place in a certificate that is read line by line.
 ghost use Rattle.std.specs.Prelude.{◌≡◌, ◌⊎◌, [], ◌∷◌, ◌<◌, ℕ, List, IsTrue, true, false, Some, None, Ok, MatchOption, length, drop, option_copied};
-ghost use Rattle.cert_join.specs.Spot.{HasNoLine, IsBefore, IsLineSize, IsMark, IsNext, IsPieceAt, IsReady, line_in, rewound};
+ghost use Rattle.cert_join.specs.Spot.{HasNoLine, IsBefore, IsLineSize, IsMark, IsPieceAt, IsReady, line_in, rewound, text_in};
 
-use crate::stop::{Place, Unjoined};
 use memchr::memchr;
 use std::alloc::{AllocError, Global};
 use std::marker::Model;
@@ -14,7 +13,6 @@ const LONGEST: usize = 524_288;
 #[derive(Clone, Copy, Debug, PartialEq, Eq)]
 pub struct Mark {
     at: u64,
-    lines: u64,
 }
 
 /// A certificate that is read line by line, and of which one piece is held.
@@ -31,8 +29,6 @@ pub struct Cursor {
     size: Option<usize>,
     // The certificate holds no more bytes.
     ended: bool,
-    // How many lines were passed.
-    lines: u64,
 }
 
 // How long the last line is, where so many bytes are left and none of them is a line break.
@@ -66,7 +62,7 @@ impl Cursor {
     /// At the certificate's beginning.
     pub fn new(alloc: Global) -> Self
         ensures { result ≡
-            record { unread = []; behind = 0; ended = false; size = None; lines = 0 } }
+            record { unread = []; behind = 0; ended = false; size = None } }
     {
         Cursor {
             behind: 0,
@@ -75,7 +71,6 @@ impl Cursor {
             searched: 0,
             size: None,
             ended: false,
-            lines: 0,
         }
     }
 
@@ -135,30 +130,14 @@ impl Cursor {
         }
     }
 
-    /// Whether the next line is there; not where more has to be read first.
-    ///
-    /// # Errors
-    /// There is none, or it is too long.
-    pub fn next(&mut self, part: usize) -> Result<bool, Unjoined>
-        ensures same { self.new ≡ record self.old { size = self.new.size } }
-        ensures next { (cert : List ℕ) (ls : List (List ℕ)) → IsBefore cert ls self.old →
-            IsNext ls self.new result }
+    /// The same where there is none as an empty line.
+    pub fn text(&self) -> &[u8]
+        ensures { result.now ≡ text_in self.now }
     {
-        if !self.is_ready() {
-            return Ok(false);
+        match self.line() {
+            Some(line) => line,
+            None => b"".as_slice(),
         }
-        match self.size {
-            Some(_) => Ok(true),
-            None => Err(Unjoined::Apart(Place {
-                part,
-                line: self.number(),
-            })),
-        }
-    }
-
-    /// The number of the next line, from 1.
-    pub fn number(&self) -> u64 {
-        self.lines.saturating_add(1)
     }
 
     /// Passes the next line, where that is known.
@@ -167,11 +146,9 @@ impl Cursor {
             line_in self.old ≡ Some l → IsBefore cert ls self.new }
     {
         if let Some(size) = self.size {
-            let lines = self.number();
             self.at = self.at.saturating_add(size).saturating_add(1);
             self.size = None;
             self.searched = 0;
-            self.lines = lines;
         }
     }
 
@@ -207,7 +184,6 @@ impl Cursor {
     {
         Mark {
             at: self.behind.saturating_sub(self.rest().len() as u64),
-            lines: self.lines,
         }
     }
 
@@ -221,6 +197,5 @@ impl Cursor {
         self.searched = 0;
         self.size = None;
         self.ended = false;
-        self.lines = mark.lines;
     }
 }

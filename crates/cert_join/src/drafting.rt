@@ -14,7 +14,8 @@ const PIECE: usize = 4096;
 #[derive(Clone, Copy, Debug, PartialEq, Eq)]
 pub struct Joined {
     /// Whether lines of a certificate were dropped that no other has: those of a tree that was not taken, of a second
-    /// tree of a lemma, or one that says that a state is stuck. They were not checked.
+    /// tree of a lemma, or one that says that a state is stuck; or one was gone through that no accepted certificate has.
+    /// They were not checked.
     pub dropped: bool,
 }
 
@@ -81,7 +82,8 @@ fn step<D: Desk>(
             Err(stop) => Err(stop),
         },
         Err(Unjoined::Memory) => Err(Stop::Memory),
-        Err(Unjoined::Apart(place)) => Err(Stop::Apart(place)),
+        Err(Unjoined::Unlike) => Err(Stop::Unlike),
+        Err(Unjoined::Crowded) => Err(Stop::Crowded),
     }
 }
 
@@ -105,16 +107,16 @@ fn run<D: Desk>(
             Err(stop) => return Err(stop),
         }
     }
-    // So many steps go through more bytes than a certificate may have.
-    Err(Stop::Refused(CertFault::TooLong { line: 0 }))
+    // No machine makes so many steps. What runs out then is answered as memory is.
+    Err(Stop::Memory)
 }
 
 /// Joins the certificates on the desk's parts, of which there are so many: what is joined is drafted and given to the feed,
 /// which is one of certificates of their problem and bound.
 ///
 /// # Errors
-/// A certificate could not be read or the draft not written, there was no memory, the certificates do not go together, or
-/// the feed refuses what is joined.
+/// A certificate could not be read or the draft not written, there was no memory, the certificates have different headers or
+/// too many lemmas, or the feed refuses what is joined.
 pub fn join<D: Desk>(
     alloc: Global,
     desk: &mut D,

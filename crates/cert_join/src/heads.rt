@@ -1,14 +1,15 @@
 // The first five lines of each certificate.
 ghost use Rattle.std.specs.Prelude.{◌≡◌, ◌≢◌, ◌++◌, ◌∷◌, ◌<◌, ◌^◌, [], ℕ, List, true, false, cond, nat_eq, Some, Ok, OnOk, slice_get, drop, map};
+ghost use Rattle.cert_model.specs.Due.{is_version};
 ghost use Rattle.cert_read.specs.CertLine.{cover, version};
 ghost use Rattle.cert_read.specs.LineText.{line_text};
 ghost use Rattle.cert_joined.specs.Covers.{Cover, AreTextsOf, IsTextOf};
 ghost use Rattle.cert_join.specs.Ahead.{AreBefore};
 ghost use Rattle.cert_join.specs.Spot.{Spot, IsBefore};
-ghost use Rattle.cert_join.specs.Heads.{all_lines, head_text, HasRead, IsBehind, IsReading, ReadsHeads, ReadsOf, TakesLine};
+ghost use Rattle.cert_join.specs.Heads.{all_lines, head_text, HasRead, IsBehind, IsReading, IsUnlike, ReadsHeads, ReadsOf, TakesLine};
 
 use crate::cursor::Cursor;
-use crate::joiner::{Step, apart};
+use crate::joiner::Step;
 use crate::line::{append_number, number_of};
 use crate::stop::Unjoined;
 use std::alloc::{AllocError, Global};
@@ -131,12 +132,13 @@ impl Heads {
         ensures same { self.new
             ≡ record self.old { version = self.new.version; earliest = self.new.earliest } }
         ensures version { self.new.version ≡ cond (nat_eq number 5) 5 self.old.version }
+        ensures known { result ≡ is_version number }
     {
         if number == NEWEST {
             self.version = NEWEST;
         }
         self.earliest = self.earliest.min(number);
-        matches!(number, 1 | 2 | NEWEST)
+        number == 1 || number == 2 || number == NEWEST
     }
 
     // Takes the first line of a certificate, and says whether it is that of a version for one check.
@@ -145,6 +147,8 @@ impl Heads {
             ≡ record self.old { version = self.new.version; earliest = self.new.earliest } }
         ensures version { (n : ℕ) → n < 2 ^ 32 → line.now ≡ line_text (version n) →
             self.new.version ≡ cond (nat_eq n 5) 5 self.old.version }
+        ensures known { (n : ℕ) → n < 2 ^ 32 → line.now ≡ line_text (version n) →
+            result ≡ is_version n }
     {
         match version_in(line) {
             Some(number) => self.take_number(number),
@@ -154,7 +158,8 @@ impl Heads {
 
     // Takes the next line of a certificate, and says whether it may stand there.
     fn take(&mut self, line: &[u8]) -> Result<bool, AllocError>
-        ensures { result ≡ Ok true → TakesLine line.now self.old self.new }
+        ensures takes { result ≡ Ok true → TakesLine line.now self.old self.new }
+        ensures unlike { result ≡ Ok false → IsUnlike line.now self.old }
     {
         let is_first = self.part == 0;
         match self.row {
@@ -173,6 +178,7 @@ impl Heads {
         ensures cover { (n : ℕ) → n < 2 ^ 32 → line.now ≡ line_text (cover n) → result ≡ Ok true →
             (self.new.point ≡ self.old.point)
             × (self.new.counts.items ≡ self.old.counts.items ++ (n ∷ [])) }
+        ensures other { result ≡ Ok false → (n : ℕ) → n < 2 ^ 32 → line.now ≢ line_text (cover n) }
     {
         match count_in(line) {
             Some(count) => match self.counts.push(count) {
@@ -220,21 +226,13 @@ impl Heads {
             IsBefore cert (drop self.old.row (all_lines c)) cursor.old →
             ReadsOf cert covers c self.old result self.new cursor.new }
     {
-        let part = self.part;
-        match cursor.next(part) {
-            Ok(true) => {}
-            Ok(false) => return Ok(Step::Read(part)),
-            Err(unjoined) => return Err(unjoined),
+        if !cursor.is_ready() {
+            return Ok(Step::Read(self.part));
         }
-        let is_good = match cursor.line() {
-            Some(line) => match self.take(line) {
-                Ok(is_good) => is_good,
-                Err(_) => return Err(Unjoined::Memory),
-            },
-            None => false,
-        };
-        if !is_good {
-            return Err(apart(part, cursor));
+        match self.take(cursor.text()) {
+            Ok(true) => {}
+            Ok(false) => return Err(Unjoined::Unlike),
+            Err(_) => return Err(Unjoined::Memory),
         }
         cursor.pass();
         self.pass();

@@ -6,7 +6,7 @@ ghost use Rattle.cert_join.specs.Gathered.{lists_of, spot_at};
 ghost use Rattle.cert_read.specs.CertLine.{cover};
 ghost use Rattle.cert_join.specs.Heads.{all_lines, head_text, AreHeadsRead};
 ghost use Rattle.cert_join.specs.Numbered.{AreNumbered};
-ghost use Rattle.cert_join.specs.Joining.{AreAtNumbers, AreLemmasWritten, HasStepped, IsAt, Within, IsJoinText, IsJoining, IsOver, IsPiece};
+ghost use Rattle.cert_join.specs.Joining.{AreAtNumbers, AreLemmasWritten, HasStepped, IsAt, IsInMemory, Within, IsJoinText, IsJoining, IsOver, IsPiece};
 ghost use Rattle.cert_join.specs.NextLine.{CopiesNext, EndsNext};
 ghost use Rattle.cert_join.specs.Spot.{IsBefore};
 ghost use Rattle.cert_join.specs.Written.{text_of};
@@ -16,7 +16,7 @@ use crate::heads::{Heads, append_line};
 use crate::lemmas::Lemmas;
 use crate::line::append_number;
 use crate::numbering::Numbering;
-use crate::stop::{Place, Unjoined};
+use crate::stop::Unjoined;
 use crate::trees::Trees;
 use std::alloc::{AllocError, Global};
 use std::mem;
@@ -33,14 +33,6 @@ pub enum Step {
     On,
     /// All is done.
     Over,
-}
-
-/// The certificate does not go together with the others, which is seen at its next line.
-pub fn apart(part: usize, cursor: &Cursor) -> Unjoined {
-    Unjoined::Apart(Place {
-        part,
-        line: cursor.number(),
-    })
 }
 
 #[derive(Drop)]
@@ -98,10 +90,15 @@ fn some(stage: Result<Stage, AllocError>) -> Result<Option<Stage>, AllocError>
 }
 
 // Reads the ends of a certificate.
-fn step_of_ends(cursors: &mut [Cursor], part: usize, is_read: &mut bool) -> Result<Step, Unjoined> {
+fn step_of_ends(
+    cursors: &mut [Cursor],
+    part: usize,
+    is_read: &mut bool,
+    is_odd: &mut bool,
+) -> Step {
     match cursors.get_mut(part) {
-        Some(cursor) => step_to_end(cursor, part, is_read),
-        None => Ok(Step::Over),
+        Some(cursor) => step_to_end(cursor, part, is_read, is_odd),
+        None => Step::Over,
     }
 }
 
@@ -114,12 +111,12 @@ pub struct Joiner {
     // Of each certificate, the number of each of its lemmas.
     numbers: Vec<Vec<u32>>,
     stage: Stage,
-    // Whether lines were dropped that no other certificate has.
+    // Whether lines were dropped that no other certificate has, or one was gone through that no accepted one has.
     dropped: bool,
 }
 
 // Copies the next line of a certificate of a point.
-fn copy_next(cursor: &mut Cursor, part: usize, text: &mut Vec<u8>) -> Result<Step, Unjoined>
+fn copy_next(cursor: &mut Cursor, part: usize, text: &mut Vec<u8>) -> Result<Step, AllocError>
     ensures { (cert : List ℕ) (ls : List (List ℕ)) → IsBefore cert ls cursor.old →
         CopiesNext cert ls text.old.items result text.new.items cursor.new }
 {
@@ -131,7 +128,7 @@ fn copy_next(cursor: &mut Cursor, part: usize, text: &mut Vec<u8>) -> Result<Ste
     };
     match append_line(text, line) {
         Ok(()) => {}
-        Err(_) => return Err(Unjoined::Memory),
+        Err(error) => return Err(error),
     }
     cursor.pass();
     Ok(Step::On)
@@ -142,7 +139,7 @@ fn step_of_point(
     cursors: &mut [Cursor],
     part: usize,
     text: &mut Vec<u8>,
-) -> Result<Step, Unjoined> {
+) -> Result<Step, AllocError> {
     match cursors.get_mut(part) {
         Some(cursor) => copy_next(cursor, part, text),
         None => Ok(Step::Over),
@@ -150,22 +147,35 @@ fn step_of_point(
 }
 
 // Reads the last line of a certificate, and then that nothing stands behind it, where `is_read` says whether the line
-// was read.
-fn step_to_end(cursor: &mut Cursor, part: usize, is_read: &mut bool) -> Result<Step, Unjoined>
+// was read. It is odd where another line is there.
+fn step_to_end(cursor: &mut Cursor, part: usize, is_read: &mut bool, is_odd: &mut bool) -> Step
     ensures { (cert : List ℕ) (ls : List (List ℕ)) → IsBefore cert ls cursor.old →
-        EndsNext cert ls is_read.old result is_read.new cursor.new }
+        EndsNext cert ls is_read.old result is_read.new is_odd.new cursor.new }
 {
     if !cursor.is_ready() {
-        return Ok(Step::Read(part));
+        return Step::Read(part);
     }
     match cursor.line() {
-        None if *is_read => Ok(Step::Over),
+        None if *is_read => Step::Over,
         Some(line) if !*is_read && line == b"end".as_slice() => {
             cursor.pass();
             *is_read = true;
-            Ok(Step::On)
+            Step::On
         }
-        _ => Err(apart(part, cursor)),
+        _ => {
+            *is_odd = true;
+            Step::Over
+        }
+    }
+}
+
+// What a step comes to that fails for want of memory alone.
+fn in_memory(step: Result<Step, AllocError>) -> Result<Step, Unjoined>
+    ensures { IsInMemory step result }
+{
+    match step {
+        Ok(step) => Ok(step),
+        Err(_) => Err(Unjoined::Memory),
     }
 }
 
@@ -175,6 +185,7 @@ fn step_in(
     cursors: &mut [Cursor],
     numbers: &[Vec<u32>],
     text: &mut Vec<u8>,
+    is_odd: &mut bool,
 ) -> Result<Step, Unjoined>
     ensures many { length cursors.new ≡ length cursors.old }
     ensures steps { (certs : List (List ℕ)) (first : Cover) (covers : List Cover) (done : List ℕ) →
@@ -185,11 +196,11 @@ fn step_in(
 {
     match stage {
         Stage::Heads(heads) => heads.step(cursors),
-        Stage::Point(part) => step_of_point(cursors, *part, text),
+        Stage::Point(part) => in_memory(step_of_point(cursors, *part, text)),
         Stage::Numbering(heads, numbering) => numbering.step(cursors, &heads.counts),
-        Stage::Lemmas(lemmas) => lemmas.step(cursors, numbers, text),
-        Stage::Trees(trees) => trees.step(cursors, numbers, text),
-        Stage::Ends(part, is_read) => step_of_ends(cursors, *part, is_read),
+        Stage::Lemmas(lemmas) => in_memory(lemmas.step(cursors, numbers, text, is_odd)),
+        Stage::Trees(trees) => in_memory(trees.step(cursors, numbers, text)),
+        Stage::Ends(part, is_read) => Ok(step_of_ends(cursors, *part, is_read, is_odd)),
     }
 }
 
@@ -301,7 +312,7 @@ impl Joiner {
             Err(error) => return Err(error),
         }
         // What only the later version has would not be refused.
-        self.dropped = numbering.dropped || heads.has_older();
+        self.dropped = self.dropped || numbering.dropped || heads.has_older();
         drop(mem::replace(&mut self.numbers, numbering.numbers));
         Ok(Stage::Lemmas(Lemmas::new()))
     }
@@ -367,15 +378,22 @@ impl Joiner {
             Within certs first covers done result text.new.items
             (lists_of self.new.numbers.items) self.new.stage self.new.cursors.items }
     {
-        step_in(&mut self.stage, &mut self.cursors, &self.numbers, text)
+        let is_odd = &mut self.dropped;
+        step_in(
+            &mut self.stage,
+            &mut self.cursors,
+            &self.numbers,
+            text,
+            is_odd,
+        )
     }
 
     /// Appends more of the text, or says what has to be read first.
     pub fn step(&mut self, text: &mut Vec<u8>) -> Result<Step, Unjoined>
-        ensures { IfOk result (λ step. (certs : List (List ℕ)) (first : Cover) →
-            (others : List Cover) → (done : List ℕ) → AreTextsOf (first ∷ others) certs →
+        ensures { (certs : List (List ℕ)) (first : Cover) (others : List Cover) (done : List ℕ) →
+            AreTextsOf (first ∷ others) certs →
             IsJoining certs first (first ∷ others) done text.old.items self.old →
-            HasStepped certs first (first ∷ others) done step text.new.items self.new) }
+            HasStepped certs first (first ∷ others) done result text.new.items self.new }
     {
         match self.step_within(text) {
             Ok(Step::Over) => {}

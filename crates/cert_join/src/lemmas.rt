@@ -1,5 +1,5 @@
 // The lemmas of the joined certificate.
-ghost use Rattle.std.specs.Prelude.{◌≡◌, ◌<◌, ◌++◌, ℕ, List, false, map, OnOk};
+ghost use Rattle.std.specs.Prelude.{◌≡◌, ◌<◌, ◌+◌, ◌++◌, ℕ, List, false, length, map, OnOk};
 ghost use Rattle.cover_model.specs.Derivation.{Tree};
 ghost use Rattle.cert_read.specs.CertLine.{CertLine, lemma};
 ghost use Rattle.cert_read.specs.LineText.{line_text, IsSpelled};
@@ -8,9 +8,9 @@ ghost use Rattle.cert_join.specs.Spot.{IsBefore};
 ghost use Rattle.cert_join.specs.Written.{texts_of};
 
 use crate::cursor::Cursor;
-use crate::joiner::{Step, apart};
-use crate::line::{append_number, append_renumbered, number_of};
-use crate::stop::Unjoined;
+use crate::joiner::Step;
+use crate::line::{append_number, append_renumbered, names_before, number_of};
+use crate::numbering::is_behind;
 use std::alloc::AllocError;
 
 /// Goes through the lemmas of each certificate, and writes each lemma where it comes first.
@@ -21,7 +21,15 @@ pub struct Lemmas {
     begun: usize,
     is_written: bool,
     // How many lemmas were written, and the number of the next.
-    next: u32,
+    next: u64,
+}
+
+// Whether these digits spell this number.
+fn is_number(digits: &[u8], number: usize) -> bool {
+    match number_of(digits) {
+        Some(said) => said as usize == number,
+        None => false,
+    }
 }
 
 // Appends the first line of a lemma.
@@ -54,25 +62,20 @@ impl Lemmas {
         }
     }
 
-    // Begins the next lemma of a certificate, which has this number. Says whether it may.
-    fn begin(&mut self, number: u32, text: &mut Vec<u8>) -> Result<bool, AllocError>
-        ensures { IsBegun number self.old self.new text.old.items text.new.items result }
+    // Begins the next lemma of a certificate, which has this number.
+    fn begin(&mut self, number: u32, text: &mut Vec<u8>) -> Result<(), AllocError>
+        requires { self.old.begun < usize.MAX }
+        ensures { OnOk result (IsBegun number self.old self.new text.old.items text.new.items) }
     {
-        match self.begun.checked_add(1) {
-            Some(begun) => self.begun = begun,
-            None => return Ok(false),
-        }
-        if number != self.next {
+        self.begun += 1;
+        if number as u64 != self.next {
             self.is_written = false;
-            return Ok(true);
+            return Ok(());
         }
         self.is_written = true;
-        match self.next.checked_add(1) {
-            Some(next) => self.next = next,
-            None => return Ok(false),
-        }
+        self.next += 1;
         match append_first(text, number) {
-            Ok(()) => Ok(true),
+            Ok(()) => Ok(()),
             Err(error) => Err(error),
         }
     }
@@ -83,49 +86,60 @@ impl Lemmas {
         digits: &[u8],
         numbers: &[u32],
         text: &mut Vec<u8>,
-    ) -> Result<bool, AllocError>
-        ensures { IsNextBegun numbers.now self.old self.new text.old.items text.new.items result }
+        is_odd: &mut bool,
+    ) -> Result<(), AllocError>
+        ensures { self.old.begun < length numbers.now → OnOk result
+            (IsNextBegun numbers.now self.old self.new text.old.items text.new.items) }
     {
-        match number_of(digits) {
-            Some(said) if said as usize == self.begun => match numbers.get(self.begun) {
-                Some(number) => self.begin(*number, text),
-                None => Ok(false),
-            },
-            _ => Ok(false),
+        let begun = self.begun;
+        *is_odd = *is_odd || !is_number(digits, begun);
+        if begun >= numbers.len() {
+            *is_odd = true;
+            self.is_written = false;
+            return Ok(());
         }
+        self.begin(numbers[begun], text)
     }
 
-    // Takes a line of the lemma that was begun. Says whether it may stand there.
-    fn copy(&mut self, line: &[u8], numbers: &[u32], text: &mut Vec<u8>) -> Result<bool, AllocError>
-        ensures { (l : CertLine) → line.now ≡ line_text l → IsSpelled l →
-            IsTaken numbers.now l self.old self.new text.old.items text.new.items result }
+    // Takes a line of the lemma that was begun.
+    fn copy(
+        &self,
+        line: &[u8],
+        numbers: &[u32],
+        text: &mut Vec<u8>,
+        is_odd: &mut bool,
+    ) -> Result<(), AllocError>
+        ensures { (l : CertLine) → line.now ≡ line_text l → IsSpelled l → OnOk result
+            (IsTaken numbers.now l self.now self.now text.old.items text.new.items) }
     {
         if !self.is_written {
-            return Ok(true);
+            return Ok(());
         }
         // The tree of a lemma may name those before it.
-        let before = self.begun.saturating_sub(1).min(numbers.len());
-        let (numbers, _) = numbers.split_at(before);
-        match append_renumbered(text, line, numbers) {
-            Ok(true) => match text.push(b'\n') {
-                Ok(()) => Ok(true),
-                Err(_) => Err(AllocError),
-            },
-            Ok(false) => Ok(false),
-            Err(error) => Err(error),
-        }
+        *is_odd = *is_odd || !names_before(line, self.begun.saturating_sub(1));
+        append_renumbered(text, line, numbers)?;
+        text.push(b'\n')?;
+        Ok(())
     }
 
-    // Takes a line of a lemma, by the numbers of the certificate's lemmas. Says whether it may stand there.
-    fn take(&mut self, line: &[u8], numbers: &[u32], text: &mut Vec<u8>) -> Result<bool, AllocError>
+    // Takes a line of a lemma, by the numbers of the certificate's lemmas.
+    fn take(
+        &mut self,
+        line: &[u8],
+        numbers: &[u32],
+        text: &mut Vec<u8>,
+        is_odd: &mut bool,
+    ) -> Result<(), AllocError>
         ensures first { (i : ℕ) → line.now ≡ line_text (lemma i) →
-            IsNextBegun numbers.now self.old self.new text.old.items text.new.items result }
+            self.old.begun < length numbers.now → OnOk result
+            (IsNextBegun numbers.now self.old self.new text.old.items text.new.items) }
         ensures inner { (l : CertLine) → line.now ≡ line_text l → IsInner l → IsSpelled l →
-            IsTaken numbers.now l self.old self.new text.old.items text.new.items result }
+            OnOk result
+            (IsTaken numbers.now l self.old self.new text.old.items text.new.items) }
     {
         match line.strip_prefix(b"lemma ") {
-            Some(digits) => self.begin_said(digits, numbers, text),
-            None => self.copy(line, numbers, text),
+            Some(digits) => self.begin_said(digits, numbers, text, is_odd),
+            None => self.copy(line, numbers, text, is_odd),
         }
     }
 
@@ -135,45 +149,38 @@ impl Lemmas {
         cursor: &mut Cursor,
         numbers: &[u32],
         text: &mut Vec<u8>,
-    ) -> Result<Step, Unjoined>
+        is_odd: &mut bool,
+    ) -> Result<Step, AllocError>
         requires { self.old.part < usize.MAX }
         ensures { (cert : List ℕ) (t : Tree) (r : Rest) → IsRest self.old.begun r →
+            self.old.begun + length r.lemmas ≡ length numbers.now →
             IsBefore cert (texts_of (lines_ahead self.old.begun r t)) cursor.old →
             StepsWithin cert t numbers.now self.old self.new r cursor.new
             text.old.items text.new.items result }
     {
-        match cursor.next(self.part) {
-            Ok(true) => {}
-            Ok(false) => return Ok(Step::Read(self.part)),
-            Err(error) => return Err(error),
+        if !cursor.is_ready() {
+            return Ok(Step::Read(self.part));
         }
-        let Some(line) = cursor.line() else {
-            return Err(apart(self.part, cursor));
-        };
-        if line == b"tree".as_slice() {
+        if is_behind(cursor) {
             self.part += 1;
             self.begun = 0;
             self.is_written = false;
             cursor.pass();
             return Ok(Step::On);
         }
-        match self.take(line, numbers, text) {
-            Ok(true) => {
-                cursor.pass();
-                Ok(Step::On)
-            }
-            Ok(false) => Err(apart(self.part, cursor)),
-            Err(_) => Err(Unjoined::Memory),
-        }
+        self.take(cursor.text(), numbers, text, is_odd)?;
+        cursor.pass();
+        Ok(Step::On)
     }
 
-    /// Reads one more line.
+    /// Reads one more line; whether that is odd: none that an accepted certificate has.
     pub fn step(
         &mut self,
         cursors: &mut [Cursor],
         numbers: &[Vec<u32>],
         text: &mut Vec<u8>,
-    ) -> Result<Step, Unjoined>
+        is_odd: &mut bool,
+    ) -> Result<Step, AllocError>
         ensures { (certs : List (List ℕ)) (f : LemmasLeft) →
             AreLemmasDue certs (map (λ v. v.items) numbers.now) f self.old cursors.old →
             StepsLemmas certs (map (λ v. v.items) numbers.now) self.old self.new f cursors.new
@@ -183,6 +190,6 @@ impl Lemmas {
         if part >= cursors.len() || part >= numbers.len() {
             return Ok(Step::Over);
         }
-        self.step_within(&mut cursors[part], numbers[part].as_slice(), text)
+        self.step_within(&mut cursors[part], numbers[part].as_slice(), text, is_odd)
     }
 }

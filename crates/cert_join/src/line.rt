@@ -5,7 +5,8 @@ ghost use Rattle.cover_model.specs.Rules.{Line};
 ghost use Rattle.cert_read.specs.CertLine.{CertLine, rule_line};
 ghost use Rattle.cert_read.specs.LineText.{line_text, IsSpelled};
 ghost use Rattle.cert_read.specs.Lines.{all_bytes, words_of};
-ghost use Rattle.cert_join.specs.Kinds.{does_name, does_stay, kind_of_word, left_kind, lemma_front, lemma_named, number_among, rule_text, waiting_behind, IsRenumbered};
+ghost use Rattle.cert_joined.specs.Covers.{numbered};
+ghost use Rattle.cert_join.specs.Kinds.{does_name, does_stay, kind_of_word, left_kind, lemma_front, lemma_named, rule_text, waiting_behind, IsRenumbered};
 
 use cover_line::Word;
 use itoa::Buffer;
@@ -22,6 +23,8 @@ pub enum Left {
     Open,
     /// The state stays stuck.
     Stuck,
+    /// It is no line of a tree.
+    Unknown,
 }
 
 impl Left {
@@ -37,7 +40,7 @@ impl Left {
         ensures { result ≡ waiting_behind self before }
     {
         match self {
-            Left::Nothing | Left::Open | Left::Stuck => before.saturating_sub(1),
+            Left::Nothing | Left::Open | Left::Stuck | Left::Unknown => before.saturating_sub(1),
             Left::One => before,
             Left::Two => before.saturating_add(1),
         }
@@ -67,15 +70,15 @@ pub fn first_word(line: &[u8]) -> &[u8]
     }
 }
 
-/// What the line leaves of its state; none where it is no line of a tree.
-pub fn left_of(line: &[u8]) -> Option<Left>
-    ensures { (r : Line) → line.now ≡ rule_text r → result ≡ Some (left_kind r) }
+/// What the line leaves of its state.
+pub fn left_of(line: &[u8]) -> Left
+    ensures { (r : Line) → line.now ≡ rule_text r → result ≡ left_kind r }
 {
     let word = first_word(line);
     match Word::spelled(word) {
-        Some(Word::Open) if word.len() < line.len() => None,
-        Some(word) => Some(left_by(word)),
-        None => None,
+        Some(Word::Open) if word.len() < line.len() => Left::Unknown,
+        Some(word) => left_by(word),
+        None => Left::Unknown,
     }
 }
 
@@ -147,47 +150,61 @@ fn append_both(text: &mut Vec<u8>, front: &[u8], number: u32) -> Result<(), Allo
     }
 }
 
-// The number that these give a lemma.
-fn number_by(numbers: &[u32], named: Option<u32>) -> Option<u32>
-    ensures { result ≡ number_among numbers.now named }
+/// Whether the line names none but the first lemmas, so many.
+pub fn names_before(line: &[u8], count: usize) -> bool {
+    if !names_lemma(line) {
+        return true;
+    }
+    match last_number(line) {
+        (_, Some(named)) => (named as usize) < count,
+        (_, None) => false,
+    }
+}
+
+// The number that these give this lemma, or 0.
+fn number_at(numbers: &[u32], named: u32) -> u32
+    ensures { result ≡ numbered numbers.now named }
+{
+    let place = named as usize;
+    if place >= numbers.len() {
+        return 0;
+    }
+    numbers[place]
+}
+
+// The number that these give a lemma, or 0.
+fn number_by(numbers: &[u32], named: Option<u32>) -> u32
+    ensures { (i : ℕ) → named ≡ Some i → result ≡ numbered numbers.now i }
 {
     match named {
-        Some(named) => numbers.get(named as usize).copied(),
-        None => None,
+        Some(named) => number_at(numbers, named),
+        None => 0,
     }
 }
 
 // Appends a line that names a lemma.
-fn append_naming(text: &mut Vec<u8>, line: &[u8], numbers: &[u32]) -> Result<bool, AllocError>
+fn append_naming(text: &mut Vec<u8>, line: &[u8], numbers: &[u32]) -> Result<(), AllocError>
     ensures { (r : Line) (i : ℕ) → line.now ≡ rule_text r → IsSpelled (rule_line r) →
         lemma_named r ≡ Some i →
-        IsRenumbered numbers.now (rule_line r) text.old.items text.new.items result }
+        OnOk result (IsRenumbered numbers.now (rule_line r) text.old.items text.new.items) }
 {
     let (front, named) = last_number(line);
-    match number_by(numbers, named) {
-        Some(number) => match append_both(text, front, number) {
-            Ok(()) => Ok(true),
-            Err(error) => Err(error),
-        },
-        None => Ok(false),
+    match append_both(text, front, number_by(numbers, named)) {
+        Ok(()) => Ok(()),
+        Err(error) => Err(error),
     }
 }
 
-/// Appends a line without its break; a lemma that a line of a tree names has the number that `numbers` gives it. Says
-/// whether that is there.
-pub fn append_renumbered(
-    text: &mut Vec<u8>,
-    line: &[u8],
-    numbers: &[u32],
-) -> Result<bool, AllocError>
+/// Appends a line without its break; a lemma that a line of a tree names has the number that `numbers` gives it, or 0.
+pub fn append_renumbered(text: &mut Vec<u8>, line: &[u8], numbers: &[u32]) -> Result<(), AllocError>
     ensures { (l : CertLine) → line.now ≡ line_text l → IsSpelled l →
-        IsRenumbered numbers.now l text.old.items text.new.items result }
+        OnOk result (IsRenumbered numbers.now l text.old.items text.new.items) }
 {
     if names_lemma(line) {
         return append_naming(text, line, numbers);
     }
     match text.extend_from_slice(line) {
-        Ok(()) => Ok(true),
+        Ok(()) => Ok(()),
         Err(error) => Err(error),
     }
 }

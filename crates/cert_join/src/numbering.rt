@@ -1,16 +1,16 @@
 // The numbers that lemmas have in the joined certificate.
-ghost use Rattle.std.specs.Prelude.{◌≡◌, ◌≢◌, ◌⊎◌, ◌++◌, ◌∷◌, ◌<◌, ◌≤◌, ◌+◌, [], ℕ, List, true, false, None, Some, Ok, IfOk, OnOk, length, map, slice_get};
+ghost use Rattle.std.specs.Prelude.{◌≡◌, ◌≢◌, ◌⊎◌, ◌++◌, ◌∷◌, ◌<◌, ◌≤◌, [], ℕ, List, true, false, None, Some, Ok, IfOk, OnOk, length, map, slice_get};
 ghost use Rattle.cert_read.specs.CertLine.{CertLine};
 ghost use Rattle.cert_read.specs.LineText.{line_text};
 ghost use Rattle.cert_joined.specs.Covers.{Cover, AreTextsOf, IsTextOf};
 ghost use Rattle.cert_join.specs.Ahead.{AreBefore};
 ghost use Rattle.cert_join.specs.Spot.{Spot, IsBefore, IsMark, line_in, rewound};
 ghost use Rattle.cert_join.specs.Written.{behind_header};
-ghost use Rattle.cert_join.specs.Numbered.{line_kind, place_of, EndsPart, IsKnown, IsNumbered, IsNumbering, IsReadingPart, MayStand, Notes, ReadsLemmas, ReadsPart, TakesLine, TakesNext, TakesState};
+ghost use Rattle.cert_join.specs.Numbered.{is_tree, line_kind, place_of, EndsPart, IsKnown, IsNumbered, IsNumbering, IsReadingPart, Notes, ReadsLemmas, ReadsPart, TakesLine, TakesNext, TakesState};
 
 use crate::cursor::{Cursor, Mark};
 use crate::heads::append_line;
-use crate::joiner::{Step, apart};
+use crate::joiner::Step;
 use crate::line::first_word;
 use crate::stop::Unjoined;
 use std::alloc::{AllocError, Global};
@@ -21,16 +21,35 @@ use std::mem;
 // A certificate has at most so many lemmas.
 const MOST_LEMMAS: u32 = 1_048_576;
 
-// What a line between the header and the main tree is.
+/// What a line between the header and the main tree is.
 #[derive(Clone, Copy, Debug, PartialEq, Eq)]
-enum Kind {
-    // The first one of a lemma.
+pub enum Kind {
+    /// The first one of a lemma.
     Lemma,
-    // The last one of its state.
+    /// The last one of its state.
     No,
-    // The one before the main tree.
+    /// The one before the main tree.
     Tree,
     Other,
+}
+
+impl Kind {
+    pub fn is_tree(self) -> bool
+        ensures { result ≡ is_tree self }
+    {
+        matches!(self, Kind::Tree)
+    }
+}
+
+/// Whether the cursor's line stands behind all lemmas, or there is none.
+pub fn is_behind(cursor: &Cursor) -> bool
+    ensures { (l : CertLine) → line_in cursor.now ≡ Some (line_text l) →
+        result ≡ is_tree (line_kind l) }
+{
+    match cursor.line() {
+        Some(line) => kind_of(line).is_tree(),
+        None => true,
+    }
 }
 
 // By its first word.
@@ -187,8 +206,16 @@ pub struct Numbering {
     pub numbers: Vec<Vec<u32>>,
     /// How many lemmas these have, equal ones once.
     pub count: u32,
-    /// Whether one of them that stands twice has two trees.
+    /// Whether one of them that stands twice has two trees, or a line was gone through that no accepted certificate has.
     pub dropped: bool,
+}
+
+// Whether a certificate says that it has so many lemmas.
+fn has_count(counts: &[u32], part: usize, many: usize) -> bool {
+    match counts.get(part) {
+        Some(count) => *count as usize == many,
+        None => false,
+    }
 }
 
 // Passes a line of this kind; behind the lemmas it goes back to their beginning.
@@ -276,7 +303,9 @@ impl Numbering {
 
     // Takes a line of a lemma.
     fn take(&mut self, kind: Kind, line: &[u8]) -> Result<(), AllocError>
-        ensures { OnOk result (TakesLine kind line.now self.old self.new) }
+        ensures takes { OnOk result (TakesLine kind line.now self.old self.new) }
+        ensures odd { kind ≢ Kind.Lemma → self.old.is_in_state ≡ false →
+            length self.old.own.items ≡ 0 → self.new.dropped ≡ true }
     {
         match kind {
             Kind::Lemma => {
@@ -290,6 +319,8 @@ impl Numbering {
             }
             kind if self.is_in_state => self.take_state(kind, line),
             _ => {
+                // Before the first lemma none but one that begins a lemma may stand.
+                self.dropped = self.dropped || self.own.is_empty();
                 self.hashes.take(line);
                 Ok(())
             }
@@ -313,7 +344,7 @@ impl Numbering {
     }
 
     // The certificate's lemmas were read.
-    fn end_part(&mut self) -> Result<(), AllocError>
+    fn end_part(&mut self, counts: &[u32]) -> Result<(), AllocError>
         requires { self.old.part < usize.MAX }
         ensures { OnOk result (EndsPart self.old self.new) }
     {
@@ -321,73 +352,59 @@ impl Numbering {
             Ok(()) => {}
             Err(error) => return Err(error),
         }
+        let is_whole = has_count(counts, self.part, self.own.len());
         let own = mem::replace(&mut self.own, Vec::new(self.alloc));
         match self.numbers.push(own) {
             Ok(()) => {}
             Err(_) => return Err(AllocError),
         }
         self.count = self.known.count;
-        self.dropped = self.hashes.dropped;
+        self.dropped = self.dropped || self.hashes.dropped || !is_whole;
         self.mark = None;
         self.part += 1;
         Ok(())
     }
 
-    // Whether a line of this kind may stand here: outside of a state, and before the first lemma, only one that begins a
-    // lemma.
-    fn may_stand(&self, kind: Kind) -> bool
-        ensures { result ≡ true → MayStand kind self.now }
-    {
-        kind == Kind::Lemma || self.is_in_state || !self.own.is_empty()
-    }
-
-    // Takes the line that the cursor has, and says what it is.
-    fn take_next(&mut self, cursor: &Cursor, count: u32) -> Result<Option<Kind>, AllocError>
+    // Takes the line that the cursor has, and says what it is. Where there is none the certificate's lemmas end as well.
+    fn take_next(&mut self, cursor: &Cursor, counts: &[u32]) -> Result<Kind, Unjoined>
         requires { self.old.part < usize.MAX }
         ensures { (l : CertLine) → line_in cursor.now ≡ Some (line_text l) →
             TakesNext (line_kind l) (line_text l) self.old result self.new }
     {
         let Some(line) = cursor.line() else {
-            return Ok(None);
+            return match self.end_part(counts) {
+                Ok(()) => Ok(Kind::Tree),
+                Err(_) => Err(Unjoined::Memory),
+            };
         };
         let kind = kind_of(line);
         if kind == Kind::Tree {
-            if self.own.len() != count as usize {
-                return Ok(None);
-            }
-            return match self.end_part() {
-                Ok(()) => Ok(Some(kind)),
-                Err(error) => Err(error),
+            return match self.end_part(counts) {
+                Ok(()) => Ok(kind),
+                Err(_) => Err(Unjoined::Memory),
             };
         }
-        if !self.may_stand(kind) {
-            return Ok(None);
-        }
         match self.take(kind, line) {
-            Ok(()) if self.known.count <= MOST_LEMMAS => Ok(Some(kind)),
-            Ok(()) => Ok(None),
-            Err(error) => Err(error),
+            Ok(()) if self.known.count <= MOST_LEMMAS => Ok(kind),
+            Ok(()) => Err(Unjoined::Crowded),
+            Err(_) => Err(Unjoined::Memory),
         }
     }
 
-    // Reads one more line of this certificate, which has so many lemmas.
-    fn read(&mut self, cursor: &mut Cursor, count: u32) -> Result<Step, Unjoined>
+    // Reads one more line of this certificate.
+    fn read(&mut self, cursor: &mut Cursor, counts: &[u32]) -> Result<Step, Unjoined>
         requires { self.old.part < usize.MAX }
         ensures { (cert : List ℕ) (before : List (List ℕ)) (c : Cover) → IsTextOf c cert →
             IsReadingPart cert before c self.old cursor.old →
             ReadsPart cert before c self.old result self.new cursor.new }
     {
-        let part = self.part;
         let mark = self.begun(cursor);
-        match cursor.next(part) {
-            Ok(true) => {}
-            Ok(false) => return Ok(Step::Read(part)),
-            Err(unjoined) => return Err(unjoined),
+        if !cursor.is_ready() {
+            return Ok(Step::Read(self.part));
         }
-        match self.take_next(cursor, count) {
-            Ok(Some(kind)) => move_on(cursor, kind, mark),
-            Ok(None) => return Err(apart(part, cursor)),
-            Err(_) => return Err(Unjoined::Memory),
+        match self.take_next(cursor, counts) {
+            Ok(kind) => move_on(cursor, kind, mark),
+            Err(unjoined) => return Err(unjoined),
         }
         Ok(Step::On)
     }
@@ -403,10 +420,6 @@ impl Numbering {
         if part >= cursors.len() {
             return Ok(Step::Over);
         }
-        let count = match counts.get(part) {
-            Some(count) => *count,
-            None => return Err(apart(part, &cursors[part])),
-        };
-        self.read(&mut cursors[part], count)
+        self.read(&mut cursors[part], counts)
     }
 }

@@ -1,5 +1,5 @@
 // The main tree of the joined certificate.
-ghost use Rattle.std.specs.Prelude.{◌≡◌, ◌<◌, ◌∷◌, ◌++◌, ℕ, List, [], Some, IfNone, IfSome, IfOk, MatchBool, length};
+ghost use Rattle.std.specs.Prelude.{◌≡◌, ◌<◌, ◌∷◌, ◌++◌, ℕ, List, [], Some, IfNone, IfOk, MatchBool, OnOk, length};
 ghost use Rattle.cover_model.specs.Rules.{Line};
 ghost use Rattle.cover_model.specs.Derivation.{Tree};
 ghost use Rattle.cert_read.specs.CertLine.{rule_line};
@@ -8,13 +8,12 @@ ghost use Rattle.cert_join.specs.Kinds.{left_kind, rule_text};
 ghost use Rattle.cert_join.specs.Spot.{Spot, line_in};
 ghost use Rattle.cert_join.specs.declared.trees.Task.TheVariants as task;
 ghost use Rattle.cert_join.specs.Due.{AllGo, AllLeave, AreTaken, Course, IsAfter, IsCopying, IsDue, IsDueBehind, IsDueWeighed, IsHere, IsNextDue, stacked, with_behind};
-ghost use Rattle.cert_join.specs.Gathered.{AllReady, AllThere, AreAlike, AreDistinct, AreNext, ArePassed, AreResized, Meeting, going, leaving, lists_of, parts_of, spot_at, text_at};
+ghost use Rattle.cert_join.specs.Gathered.{AllReady, AllThere, AreAlike, AreDistinct, AreNext, ArePassed, AreResized, Meeting, going, leaving, lists_of, numbers_at, parts_of, spot_at, text_at};
 ghost use Rattle.cert_join.specs.Joining.{IsFirstOf};
 
 use crate::cursor::Cursor;
-use crate::joiner::{ROOM, Step, apart};
-use crate::line::{Left, append_renumbered, left_of};
-use crate::stop::{Place, Unjoined};
+use crate::joiner::{ROOM, Step};
+use crate::line::{Left, append_renumbered, left_of, names_before};
 use crate::weighing::Weighing;
 use std::alloc::{AllocError, Global};
 use std::mem;
@@ -37,22 +36,29 @@ pub struct Trees {
     places: Vec<Vec<usize>>,
     task: Task,
     /// Whether a line was dropped that another certificate does not have: one of a tree that was not taken, or one
-    /// that says that a state is stuck.
+    /// that says that a state is stuck; or one was gone through that an accepted certificate does not have.
     pub dropped: bool,
 }
 
 // What the certificate's next line leaves.
-fn left_at(cursors: &[Cursor], part: usize) -> Option<Left>
-    ensures { IfSome result (λ k. (part < length cursors.now) × ((r : Line) →
-        line_in (spot_at cursors.now part) ≡ Some (rule_text r) → k ≡ left_kind r)) }
+fn left_at(cursors: &[Cursor], part: usize) -> Left
+    ensures { part < length cursors.now → (r : Line) →
+        line_in (spot_at cursors.now part) ≡ Some (rule_text r) → result ≡ left_kind r }
 {
     if part >= cursors.len() {
-        return None;
+        return Left::Unknown;
     }
-    match cursors[part].line() {
-        Some(line) => left_of(line),
-        None => None,
+    left_of(cursors[part].text())
+}
+
+// The numbers of a certificate's lemmas.
+fn numbers_of(numbers: &[Vec<u32>], part: usize) -> &[u32]
+    ensures { result.now ≡ numbers_at (lists_of numbers.now) part }
+{
+    if part >= numbers.len() {
+        return &[];
     }
+    &numbers[part]
 }
 
 // Passes a certificate's next line.
@@ -79,21 +85,15 @@ fn append_at(
     numbers: &[Vec<u32>],
     part: usize,
     text: &mut Vec<u8>,
-) -> Result<(), Unjoined>
-    ensures { IfOk result (λ _. (part < length cursors.now) × ((r : Line) →
+) -> Result<(), AllocError>
+    ensures { OnOk result (part < length cursors.now → (r : Line) →
         line_in (spot_at cursors.now part) ≡ Some (rule_text r) → IsSpelled (rule_line r) →
-        text.new.items ≡ text.old.items ++ text_at (lists_of numbers.now) part r)) }
+        text.new.items ≡ text.old.items ++ text_at (lists_of numbers.now) part r) }
 {
-    if part >= cursors.len() || part >= numbers.len() {
-        return Err(unjoined_at(cursors, part));
+    if part >= cursors.len() {
+        return Ok(());
     }
-    let Some(line) = cursors[part].line() else {
-        return Err(unjoined_at(cursors, part));
-    };
-    if !append_renumbered(text, line, &numbers[part])? {
-        return Err(unjoined_at(cursors, part));
-    }
-    Ok(())
+    append_renumbered(text, cursors[part].text(), numbers_of(numbers, part))
 }
 
 // The first of these certificates whose next line is not there yet.
@@ -109,13 +109,12 @@ fn unread_of(cursors: &mut [Cursor], parts: &[usize]) -> Option<usize>
     None
 }
 
-// The next line of the certificate is none that may stand there.
-fn unjoined_at(cursors: &[Cursor], part: usize) -> Unjoined {
-    let line = match cursors.get(part) {
-        Some(cursor) => cursor.number(),
-        None => 0,
-    };
-    Unjoined::Apart(Place { part, line })
+// Whether the certificate's next line, which leaves this, is none that an accepted one has.
+fn is_odd_at(cursors: &[Cursor], numbers: &[Vec<u32>], part: usize, left: Left) -> bool {
+    if part >= cursors.len() || left == Left::Unknown {
+        return true;
+    }
+    !names_before(cursors[part].text(), numbers_of(numbers, part).len())
 }
 
 // Certificates by what their next lines leave.
@@ -124,25 +123,27 @@ struct Split {
     // Those whose next line does not leave its state, and those whose does.
     grown: Vec<usize>,
     left: Vec<usize>,
-    // Whether a line says that its state is stuck.
-    is_stuck: bool,
+    // Whether a line says that its state is stuck, or is none that an accepted certificate has.
+    is_odd: bool,
 }
 
 // Sorts these certificates by what their next lines leave.
-fn sorted(alloc: Global, cursors: &[Cursor], parts: &[usize]) -> Result<Split, Unjoined>
-    ensures there { IfOk result (λ _. AllThere parts.now cursors.now) }
-    ensures sides { IfOk result (λ s. (place : Meeting) → parts_of place ≡ parts.now →
-        AreNext cursors.now place →
+fn sorted(
+    alloc: Global,
+    cursors: &[Cursor],
+    numbers: &[Vec<u32>],
+    parts: &[usize],
+) -> Result<Split, AllocError>
+    ensures { IfOk result (λ s. (place : Meeting) → parts_of place ≡ parts.now →
+        AllThere parts.now cursors.now → AreNext cursors.now place →
         (s.grown.items ≡ parts_of (going place)) × (s.left.items ≡ parts_of (leaving place))) }
 {
     let mut grown: Vec<usize> = Vec::new(alloc);
     let mut left: Vec<usize> = Vec::new(alloc);
-    let mut is_stuck = false;
+    let mut is_odd = false;
     for part in parts {
-        let Some(kind) = left_at(cursors, *part) else {
-            return Err(unjoined_at(cursors, *part));
-        };
-        is_stuck = is_stuck || kind == Left::Stuck;
+        let kind = left_at(cursors, *part);
+        is_odd = is_odd || kind == Left::Stuck || is_odd_at(cursors, numbers, *part, kind);
         if kind.stays() {
             left.push(*part)?;
         } else {
@@ -152,7 +153,7 @@ fn sorted(alloc: Global, cursors: &[Cursor], parts: &[usize]) -> Result<Split, U
     Ok(Split {
         grown,
         left,
-        is_stuck,
+        is_odd,
     })
 }
 
@@ -163,9 +164,10 @@ fn are_alike(
     numbers: &[Vec<u32>],
     first: usize,
     others: &[usize],
-) -> Result<bool, Unjoined>
+) -> Result<bool, AllocError>
     ensures { IfOk result (λ b. (x : ℕ × Tree) (place : Meeting) → x.0 ≡ first →
-        parts_of place ≡ others.now → AreNext cursors.now (x ∷ place) →
+        parts_of place ≡ others.now → AllThere (parts_of (x ∷ place)) cursors.now →
+        AreNext cursors.now (x ∷ place) →
         MatchBool b (AreAlike (lists_of numbers.now) x place)
         (AreAlike (lists_of numbers.now) x place → ⊥)) }
 {
@@ -186,10 +188,10 @@ fn are_alike(
 fn copy_line(
     cursor: &mut Cursor,
     numbers: &[u32],
-    part: usize,
     waiting: &mut u64,
     text: &mut Vec<u8>,
-) -> Result<bool, Unjoined>
+    is_odd: &mut bool,
+) -> Result<bool, AllocError>
     ensures { IfOk result (λ _. (cert : List ℕ) (rest : List (List ℕ)) (whole : List ℕ) →
         0 < waiting.old →
         IsCopying cert numbers.now rest whole waiting.old text.old.items cursor.old →
@@ -198,15 +200,10 @@ fn copy_line(
     if !cursor.is_ready() {
         return Ok(false);
     }
-    let Some(line) = cursor.line() else {
-        return Err(apart(part, cursor));
-    };
-    let Some(left) = left_of(line) else {
-        return Err(apart(part, cursor));
-    };
-    if !append_renumbered(text, line, numbers)? {
-        return Err(apart(part, cursor));
-    }
+    let line = cursor.text();
+    let left = left_of(line);
+    *is_odd = *is_odd || left == Left::Unknown || !names_before(line, numbers.len());
+    append_renumbered(text, line, numbers)?;
     text.push(b'\n')?;
     *waiting = left.waiting(*waiting);
     cursor.pass();
@@ -218,10 +215,10 @@ fn copy_line(
 fn copy(
     cursor: &mut Cursor,
     numbers: &[u32],
-    part: usize,
     waiting: &mut u64,
     text: &mut Vec<u8>,
-) -> Result<bool, Unjoined>
+    is_odd: &mut bool,
+) -> Result<bool, AllocError>
     ensures { IfOk result (λ _. (cert : List ℕ) (rest : List (List ℕ)) (whole : List ℕ) →
         IsCopying cert numbers.now rest whole waiting.old text.old.items cursor.old →
         IsCopying cert numbers.now rest whole waiting.new text.new.items cursor.new) }
@@ -230,7 +227,7 @@ fn copy(
         if *waiting == 0 || text.len() >= ROOM {
             break;
         }
-        if !copy_line(cursor, numbers, part, waiting, text)? {
+        if !copy_line(cursor, numbers, waiting, text, is_odd)? {
             return Ok(false);
         }
     }
@@ -244,7 +241,7 @@ fn take_line(
     part: usize,
     parts: &[usize],
     text: &mut Vec<u8>,
-) -> Result<(), Unjoined>
+) -> Result<(), AllocError>
     ensures { IfOk result (λ _. AreTaken (lists_of numbers.now) part parts.now
         text.old.items cursors.old text.new.items cursors.new) }
 {
@@ -260,7 +257,7 @@ fn leave(
     numbers: &[Vec<u32>],
     parts: &[usize],
     text: &mut Vec<u8>,
-) -> Result<(), Unjoined>
+) -> Result<(), AllocError>
     ensures { IfOk result (λ _. (k : Course) (places : List (List ℕ)) →
         k.numbers ≡ lists_of numbers.now →
         (h : IsHere k parts.now places text.old.items cursors.old) → AllLeave (h.first ∷ h.others) →
@@ -317,18 +314,18 @@ impl Trees {
         numbers: &[Vec<u32>],
         parts: &[usize],
         text: &mut Vec<u8>,
-    ) -> Result<Task, Unjoined>
+    ) -> Result<Task, AllocError>
         ensures { IfOk result (λ task. (k : Course) → k.numbers ≡ lists_of numbers.now →
             AllReady parts.now cursors.old →
             IsDue k (parts.now ∷ stacked self.old.places.items) text.old.items cursors.old →
             IsNextDue k task (stacked self.new.places.items) text.new.items cursors.new) }
     {
-        let sorted = sorted(self.alloc, cursors, parts)?;
+        let sorted = sorted(self.alloc, cursors, numbers, parts)?;
         if sorted.grown.is_empty() {
             leave(cursors, numbers, parts, text)?;
             return Ok(Task::Compare);
         }
-        self.dropped = self.dropped || sorted.is_stuck;
+        self.dropped = self.dropped || sorted.is_odd;
         pass_all(cursors, &sorted.left);
         let task = self.go_on(cursors, numbers, sorted.grown, text)?;
         Ok(task)
@@ -341,10 +338,10 @@ impl Trees {
         numbers: &[Vec<u32>],
         parts: Vec<usize>,
         text: &mut Vec<u8>,
-    ) -> Result<Task, Unjoined>
+    ) -> Result<Task, AllocError>
         ensures { IfOk result (λ task. (k : Course) → k.numbers ≡ lists_of numbers.now →
             (h : IsHere k parts.items (stacked self.old.places.items) text.old.items cursors.old) →
-            AllGo (h.first ∷ h.others) → AllThere parts.items cursors.old →
+            AllGo (h.first ∷ h.others) →
             IsNextDue k task (stacked self.new.places.items) text.new.items cursors.new) }
     {
         if parts.is_empty() {
@@ -363,7 +360,7 @@ impl Trees {
     }
 
     // Adds the places behind a line of this kind.
-    fn push_behind(&mut self, left: Left, parts: Vec<usize>) -> Result<(), Unjoined>
+    fn push_behind(&mut self, left: Left, parts: Vec<usize>) -> Result<(), AllocError>
         ensures { IfOk result (λ _. stacked self.new.places.items ≡
             with_behind left parts.items (stacked self.old.places.items)) }
     {
@@ -378,7 +375,7 @@ impl Trees {
                 self.places.push(parts)?;
                 Ok(())
             }
-            Left::Nothing | Left::Open | Left::Stuck => Ok(()),
+            Left::Nothing | Left::Open | Left::Stuck | Left::Unknown => Ok(()),
         }
     }
 
@@ -390,15 +387,13 @@ impl Trees {
         part: usize,
         parts: Vec<usize>,
         text: &mut Vec<u8>,
-    ) -> Result<(), Unjoined>
+    ) -> Result<(), AllocError>
         ensures { IfOk result (λ _. (k : Course) → k.numbers ≡ lists_of numbers.now →
             (h : IsHere k parts.items (stacked self.old.places.items) text.old.items cursors.old) →
             part ≡ h.first.0 → AllGo (h.first ∷ h.others) → AreAlike k.numbers h.first h.others →
             IsDue k (stacked self.new.places.items) text.new.items cursors.new) }
     {
-        let Some(left) = left_at(cursors, part) else {
-            return Err(unjoined_at(cursors, part));
-        };
+        let left = left_at(cursors, part);
         take_line(cursors, numbers, part, &parts, text)?;
         self.push_behind(left, parts)?;
         Ok(())
@@ -410,7 +405,7 @@ impl Trees {
         cursors: &mut [Cursor],
         numbers: &[Vec<u32>],
         text: &mut Vec<u8>,
-    ) -> Result<Step, Unjoined>
+    ) -> Result<Step, AllocError>
         ensures { IfOk result (λ step. (k : Course) → k.numbers ≡ lists_of numbers.now →
             self.old.task ≡ task.Compare →
             IsDue k (stacked self.old.places.items) text.old.items cursors.old →
@@ -436,18 +431,19 @@ impl Trees {
         part: usize,
         waiting: u64,
         text: &mut Vec<u8>,
-    ) -> Result<Step, Unjoined>
+    ) -> Result<Step, AllocError>
         ensures { IfOk result (λ step. (k : Course) → k.numbers ≡ lists_of numbers.now →
             self.old.task ≡ task.Compare →
             IsDueBehind k part waiting (stacked self.old.places.items) text.old.items cursors.old →
             IsAfter k step self.new.task (stacked self.new.places.items)
             text.new.items cursors.new) }
     {
-        if part >= cursors.len() || part >= numbers.len() {
-            return Err(unjoined_at(cursors, part));
+        if part >= cursors.len() {
+            return Ok(Step::On);
         }
         let mut left = waiting;
-        let is_there = copy(&mut cursors[part], &numbers[part], part, &mut left, text)?;
+        let own = numbers_of(numbers, part);
+        let is_there = copy(&mut cursors[part], own, &mut left, text, &mut self.dropped)?;
         self.task = copying(part, left);
         if is_there {
             Ok(Step::On)
@@ -462,7 +458,7 @@ impl Trees {
         cursors: &mut [Cursor],
         numbers: &[Vec<u32>],
         text: &mut Vec<u8>,
-    ) -> Result<Step, Unjoined>
+    ) -> Result<Step, AllocError>
         ensures { IfOk result (λ step. (k : Course) → k.numbers ≡ lists_of numbers.now →
             IsNextDue k self.old.task (stacked self.old.places.items) text.old.items cursors.old →
             IsAfter k step self.new.task (stacked self.new.places.items)
@@ -477,44 +473,36 @@ impl Trees {
                 let step = self.step_to_copy(cursors, numbers, part, waiting, text)?;
                 Ok(step)
             }
-            Task::Weigh(weighing) => {
-                let step = self.step_to_weigh(cursors, weighing)?;
-                Ok(step)
-            }
+            Task::Weigh(weighing) => Ok(self.step_to_weigh(cursors, weighing)),
         }
     }
 
     // Goes on with the choice of a tree.
-    fn step_to_weigh(
-        &mut self,
-        cursors: &mut [Cursor],
-        weighing: Weighing,
-    ) -> Result<Step, Unjoined>
-        ensures { IfOk result (λ step. (k : Course) (text : List ℕ) →
+    fn step_to_weigh(&mut self, cursors: &mut [Cursor], weighing: Weighing) -> Step
+        ensures { (k : Course) (text : List ℕ) →
             IsDueWeighed k weighing (stacked self.old.places.items) text cursors.old →
-            IsAfter k step self.new.task (stacked self.new.places.items) text cursors.new) }
+            IsAfter k result self.new.task (stacked self.new.places.items) text cursors.new }
     {
         let mut weighing = weighing;
         match weighing.step(cursors) {
-            Ok(Step::Over) => {}
-            Ok(Step::On) => {
+            Step::Over => {}
+            Step::On => {
                 self.task = Task::Weigh(weighing);
-                return Ok(Step::On);
+                return Step::On;
             }
-            Ok(Step::Read(part)) => {
+            Step::Read(part) => {
                 self.task = Task::Weigh(weighing);
-                return Ok(Step::Read(part));
+                return Step::Read(part);
             }
-            Err(unjoined) => return Err(unjoined),
         }
         let Some((part, mark)) = weighing.chosen() else {
-            return Err(unjoined_at(cursors, 0));
+            return Step::On;
         };
         if part >= cursors.len() {
-            return Err(unjoined_at(cursors, part));
+            return Step::On;
         }
         cursors[part].rewind(mark);
         self.task = Task::Copy { part, waiting: 1 };
-        Ok(Step::On)
+        Step::On
     }
 }

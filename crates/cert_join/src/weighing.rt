@@ -1,17 +1,15 @@
 // Which of several trees of one place is taken.
-ghost use Rattle.std.specs.Prelude.{◌≡◌, ◌≤◌, [], ◌∷◌, ◌++◌, ℕ, List, MatchOption, length, map};
+ghost use Rattle.std.specs.Prelude.{◌≡◌, [], ◌∷◌, ◌++◌, ℕ, List, MatchOption, map};
 ghost use Rattle.cover_model.specs.Rules.{Line};
 ghost use Rattle.cover_model.specs.Derivation.{Tree};
-ghost use Rattle.cert_read.specs.Lines.{longest_line};
 ghost use Rattle.cert_join.specs.Ahead.{AreBefore};
 ghost use Rattle.cert_join.specs.Kinds.{rule_text};
 ghost use Rattle.cert_join.specs.Spot.{Spot, IsBefore, IsMark};
 ghost use Rattle.cert_join.specs.Weighed.{AreAhead, AreApart, Branch, IsChoosing, IsChosen, IsGone, IsLeft, IsWeighStep, IsWeighing, IsWithin, behind_next, behind_tree, first_closing, forest_texts, passed};
 
 use crate::cursor::{Cursor, Mark};
-use crate::joiner::{Step, apart};
+use crate::joiner::Step;
 use crate::line::{Left, left_of};
-use crate::stop::Unjoined;
 
 /// Goes through the trees that several certificates have at one place, one after the other, to see what they leave.
 #[derive(Drop)]
@@ -29,23 +27,15 @@ pub struct Weighing {
 }
 
 // What the certificate's next line leaves; none where more has to be read first.
-fn left_of_next(cursor: &mut Cursor, part: usize) -> Result<Option<Left>, Unjoined>
+fn left_of_next(cursor: &mut Cursor) -> Option<Left>
     ensures same { cursor.new ≡ record cursor.old { size = cursor.new.size } }
     ensures left { (cert : List ℕ) (r : Line) (ls : List (List ℕ)) →
-        IsBefore cert (rule_text r ∷ ls) cursor.old → length (rule_text r) ≤ longest_line →
-        IsLeft r cursor.new result }
+        IsBefore cert (rule_text r ∷ ls) cursor.old → IsLeft r cursor.new result }
 {
-    match cursor.next(part) {
-        Ok(true) => {}
-        Ok(false) => return Ok(None),
-        Err(unjoined) => return Err(unjoined),
-    }
-    match cursor.line() {
-        Some(line) => match left_of(line) {
-            Some(left) => Ok(Some(left)),
-            None => Err(apart(part, cursor)),
-        },
-        None => Err(apart(part, cursor)),
+    if cursor.is_ready() {
+        Some(left_of(cursor.text()))
+    } else {
+        None
     }
 }
 
@@ -119,7 +109,7 @@ impl Weighing {
     }
 
     // Passes one more line of the certificate.
-    fn step_in(&mut self, part: usize, cursor: &mut Cursor) -> Result<Step, Unjoined>
+    fn step_in(&mut self, part: usize, cursor: &mut Cursor) -> Step
         ensures { (cert : List ℕ) (b : Branch) (left : List Tree) → part ≡ b.part →
             IsWithin cert b left self.old →
             IsBefore cert (forest_texts left ++ b.behind) cursor.old →
@@ -127,29 +117,28 @@ impl Weighing {
     {
         let mark = self.mark_at(cursor);
         self.mark = Some(mark);
-        match left_of_next(cursor, part) {
-            Ok(Some(left)) => {
+        match left_of_next(cursor) {
+            Some(left) => {
                 cursor.pass();
                 self.take(part, mark, left);
-                Ok(Step::On)
+                Step::On
             }
-            Ok(None) => Ok(Step::Read(part)),
-            Err(unjoined) => Err(unjoined),
+            None => Step::Read(part),
         }
     }
 
     /// Passes one more line.
-    pub fn step(&mut self, cursors: &mut [Cursor]) -> Result<Step, Unjoined>
+    pub fn step(&mut self, cursors: &mut [Cursor]) -> Step
         ensures { (certs : List (List ℕ)) (taken : Branch) (end : List (List (List ℕ))) →
             IsWeighing certs taken end self.old cursors.old →
             IsWeighStep certs taken end self.new cursors.new result }
     {
         if self.place >= self.parts.len() {
-            return Ok(Step::Over);
+            return Step::Over;
         }
         let part = self.parts[self.place];
         if part >= cursors.len() {
-            return Ok(Step::Over);
+            return Step::Over;
         }
         self.step_in(part, &mut cursors[part])
     }

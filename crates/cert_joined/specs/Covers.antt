@@ -1,12 +1,12 @@
 -- What the certificates of covers say, and what joins them: one header, the lemmas of all with new numbers, and a tree that joins theirs.
-use Rattle.std.specs.Prelude.{◌≡◌, ◌≤◌, ℕ, suc, List, [], ◌∷◌, ◌++◌, Option, Some, cond, length, map, nat_eq, get_or, slice_get}
+use Rattle.std.specs.Prelude.{◌≡◌, ◌≤◌, ◌<◌, ℕ, suc, List, [], ◌∷◌, ◌++◌, Option, Some, cond, length, map, nat_eq, get_or, slice_get}
 use Rattle.std.specs.List.{AllByRecursion}
 use Rattle.cover_model.specs.Rules.{Line, narrow_by, end_by, mark_by, branch_by, by_lemma, ban_atom, by, ban}
 use Rattle.cover_model.specs.Derivation.{Tree, leaf, then, fork, tree_lines}
 use Rattle.cert_read.specs.CertLine.{CertLine, version, margin, delta, bound, cover, lemma, tree_word, end_word, real_interval, bool_value, yes_list, no_list}
 use Rattle.cert_read.specs.LineText.{IsSpelled, line_text, text_of_lines}
 use Rattle.cert_read.specs.Lines.{lines_of}
-use Rattle.cert_model.specs.Accepted.{most_bytes}
+use Rattle.cert_model.specs.Accepted.{most_bytes, most_lemmas}
 use Rattle.cert_model.specs.Written.{rule_lines}
 use Rattle.cert_joined.specs.Joined.{Joins}
 
@@ -119,6 +119,18 @@ pub record AreAllLemmas (covers : List Cover) (numbers : List (List ℕ)) (lemma
       (i : ℕ) × (k : ℕ) × (x : Lemma) × IsLemmaAt covers i k x × (number_at numbers i k ≡ n) × (state_lines y ≡ state_lines x) × (y.tree ≡ tree_by (numbered (get_or numbers i [])) x.tree)
   -- no two have one state
   pub once : (m n : ℕ) (x y : Lemma) → slice_get lemmas m ≡ Some x → slice_get lemmas n ≡ Some y → state_lines x ≡ state_lines y → m ≡ n
+
+-- the state is that of a lemma of one of the covers
+abbrev pub IsStateOf : List Cover → List CertLine → Type 0
+IsStateOf covers s = (i : ℕ) × (k : ℕ) × (x : Lemma) × IsLemmaAt covers i k x × (s ≡ state_lines x)
+
+-- The lemmas of the covers have more states than a certificate may have lemmas.
+pub record IsCrowded (covers : List Cover) : Type 0 where
+  pub states : List (List CertLine)
+  pub among : (n : ℕ) (s : List CertLine) → slice_get states n ≡ Some s → IsStateOf covers s
+  -- none stands twice
+  pub once : (m n : ℕ) (s : List CertLine) → slice_get states m ≡ Some s → slice_get states n ≡ Some s → m ≡ n
+  pub many : most_lemmas < length states
 
 -- the main trees, with the new numbers of lemmas
 abbrev pub trees_by : List (List ℕ) → List Cover → List Tree

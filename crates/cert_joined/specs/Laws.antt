@@ -4,7 +4,7 @@ use Rattle.std.specs.List.{AllByRecursion}
 use Rattle.poly_graph.specs.Problem.{Problem, first_crossed}
 use Rattle.cover_model.specs.State.{State, Loosenings, in_version}
 use Rattle.cover_model.specs.Derivation.{Tree, tree_lines, Lawful}
-use Rattle.cert_model.specs.Due.{Standing, left_open}
+use Rattle.cert_model.specs.Due.{Standing, Value, is_version, left_open}
 use Rattle.cert_model.specs.Accepted.{IsAccepted}
 use Rattle.cert_resumed.specs.Resumed.{Refines}
 use Rattle.cert_joined.specs.Covers.{Cover, IsShaped, IsTextOf}
@@ -44,3 +44,8 @@ LawfulIsShaped = (p : Problem) (s : Loosenings) (lemmas : List State) (S : State
 abbrev pub AcceptedIsText : Type 0
 AcceptedIsText = (p : Problem) (b : Option ℕ) (bytes : List ℕ) (s : Loosenings) (left : List Standing) → IsAccepted p b bytes s (left_open left) → first_crossed p ≡ None →
     (c : Cover) × IsTextOf c bytes
+
+-- The header of an accepted certificate of a cover has a version that is read, and the bound of the words.
+abbrev pub AcceptedHasHeader : Type 0
+AcceptedHasHeader = (p : Problem) (b : Option ℕ) (bytes : List ℕ) (s : Loosenings) (v : Value) (c : Cover) → IsAccepted p b bytes s v → IsTextOf c bytes →
+    IsTrue (is_version c.version) × (c.bound ≡ b)

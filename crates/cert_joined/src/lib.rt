@@ -5,7 +5,7 @@
 //! is. No code runs here: each function is a law about the definitions in `specs/`, and its contract is the law.
 #![tactic(auto)]
 
-ghost use Rattle.cert_joined.specs.Laws.{AcceptedIsText, ClosedStaysClosed, JoinsLawful, JoinsRefines, KeepsEach, LawfulIsShaped};
+ghost use Rattle.cert_joined.specs.Laws.{AcceptedHasHeader, AcceptedIsText, ClosedStaysClosed, JoinsLawful, JoinsRefines, KeepsEach, LawfulIsShaped};
 
 /// What joins trees that are lawful at a state, each in its version of the format, is lawful there in each later one.
 pub fn joins_lawful()
@@ -36,4 +36,9 @@ pub fn lawful_is_shaped()
 /// The bytes of an accepted cover are the text of a cover, where the declared box is not empty.
 pub fn accepted_is_text()
     ensures { AcceptedIsText }
+{}
+
+/// The header of an accepted certificate of a cover has a version that is read, and the bound of the words.
+pub fn accepted_has_header()
+    ensures { AcceptedHasHeader }
 {}

@@ -1,14 +1,14 @@
 -- What `join` may do: one certificate of several, which is accepted, or why there is none.
-use Rattle.std.specs.Prelude.{◌≡◌, ◌++◌, ℕ, suc, List, [], ◌∷◌, Option, codes, decimal, length, map}
+use Rattle.std.specs.Prelude.{◌≡◌, ◌⊎◌, ◌++◌, ℕ, suc, List, [], ◌∷◌, Option, codes, decimal, length, map}
 use Rattle.std.specs.List.{AllByRecursion}
 use Rattle.desk.specs.declared.desk.Port.TheVariants.{Answer, Draft, Part, Script}
 use Rattle.command_line.specs.Words.{Join}
 use Rattle.poly_graph.specs.Problem.{Problem}
 use Rattle.cover_model.specs.State.{Loosenings}
 use Rattle.cert_model.specs.Due.{CertFault, Value}
-use Rattle.cert_model.specs.Accepted.{IsAccepted, refused, verdict}
+use Rattle.cert_model.specs.Accepted.{IsAccepted, certificate_text, refused, verdict}
 use Rattle.cert_model.specs.AnswerText.{check_text, text_line, verdict_text}
-use Rattle.cert_joined.specs.Covers.{JoinsTexts}
+use Rattle.cert_joined.specs.Covers.{AreTextsOf, Cover, IsCrowded, IsJoinOf, JoinsTexts, cover_lines}
 use Rattle.cert_parting.specs.Parting.{AreAgreed, IsFirstApart}
 use Rattle.check_run.specs.declared.status.Status.TheVariants.{Answered, CertRefused}
 use Rattle.check_run.specs.Course.{Course, Start, says}
@@ -27,6 +27,14 @@ several_starts names out = part_starts names ++ (Draft, out) ∷ []
 abbrev pub join_starts : Join → List Start
 join_starts words = (Script, words.script) ∷ several_starts words.certs words.out
 
+-- the covers whose texts these are have more states of lemmas than a certificate may have lemmas
+abbrev pub AreCrowded : List (List ℕ) → Type 0
+AreCrowded parts = (first : Cover) (others : List Cover) → AreTextsOf (first ∷ others) parts → IsCrowded (first ∷ others)
+
+-- the line of a cover that says how many lemmas it has
+abbrev pub lemmas_line : ℕ
+lemmas_line = 5
+
 module _ (p : Problem) (b : Option ℕ) where
   abbrev pub IsAcceptedAlone : List ℕ → Type 0
   IsAcceptedAlone cert = (s : Loosenings) × (v : Value) × IsAccepted p b cert s v
@@ -44,6 +52,17 @@ module _ (p : Problem) (b : Option ℕ) where
     pub number : k ≡ suc (length before)
     pub accepted : AreAllAccepted before
     pub refuses : verdict p b cert ≡ refused f n
+
+  -- ---- certificates that are not joined
+
+  -- what joins their covers has this fault at line n
+  abbrev pub HasJoinedFault : List (List ℕ) → CertFault → ℕ → Type 0
+  HasJoinedFault parts f n = (first : Cover) (others : List Cover) → AreTextsOf (first ∷ others) parts →
+      (joined : Cover) × IsJoinOf (first ∷ others) joined × (verdict p b (certificate_text (cover_lines joined)) ≡ refused f n)
+
+  -- their covers have too many lemmas, which its line of their number shows; or what joins them has a fault at line n
+  abbrev pub IsUnjoined : List (List ℕ) → ℕ → Type 0
+  IsUnjoined parts n = ((n ≡ lemmas_line) × AreCrowded parts) ⊎ ((f : CertFault) × HasJoinedFault parts f n)
 
 -- ---- answers
 
@@ -68,8 +87,8 @@ pub data IsNotJoined (p : Problem) (b : Option ℕ) (parts : List (List ℕ)) (t
   one_refused : (k : ℕ) (f : CertFault) (n : ℕ) → IsFirstRefused p b parts k f n → text ≡ refused_part_text k f n → IsNotJoined p b parts text
   -- each is accepted, and this is the first whose margin or delta is not that of the first one, and the line that says so
   apart : (k n : ℕ) → AreAllAccepted p b parts → IsFirstApart parts k n → text ≡ apart_text k n → IsNotJoined p b parts text
-  -- each is accepted, all have one margin and delta, and a line of what was joined is refused
-  joined_refused : (n : ℕ) → AreAllAccepted p b parts → AreAgreed parts → text ≡ not_joined_line n → IsNotJoined p b parts text
+  -- each is accepted, all have one margin and delta, and yet no certificate joins them, as this line of it shows
+  joined_refused : (n : ℕ) → AreAllAccepted p b parts → AreAgreed parts → IsUnjoined p b parts n → text ≡ not_joined_line n → IsNotJoined p b parts text
 
 -- a certificate that took the name of its draft, and then an answer
 abbrev pub keeps : List ℕ → List ℕ → Course

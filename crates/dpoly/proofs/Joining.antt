@@ -9,17 +9,22 @@ use Rattle.command_line.specs.Words.{Join, join}
 use Rattle.poly_graph.specs.Problem.{Problem}
 use Rattle.poly_graph.specs.ProblemViews.{Parts, problem_of}
 use Rattle.cover_model.specs.State.{Loosenings}
+use Rattle.cert_model.specs.Due as due
 use Rattle.cert_model.specs.Due.{Value}
-use Rattle.cert_model.specs.Accepted.{Verdict, accepted, refused, verdict}
+use Rattle.cert_model.specs.Accepted.{Verdict, accepted, refused, stopped, verdict}
 use Rattle.cert_model.specs.AnswerText.{check_text, verdict_text}
 use Rattle.cert_check.specs.declared.checker.Verdict as told
+use Rattle.cover_line.specs.Views.{rule_word}
 use Rattle.cert_check.specs.declared.fault.CertFault.{CertFault}
+use Rattle.cert_check.specs.declared.fault.CertFault.TheVariants as numbered
 use Rattle.cert_check.specs.declared.feed.Feed.{Feed}
 use Rattle.cert_check.specs.Courses.{IsVerdict, verdict_of}
 use Rattle.cert_check.specs.Faults.{stop_of}
-use Rattle.cert_check.specs.Feeding.{IsVerdictOfTaken, IsVerdictOrMemory}
-use Rattle.cert_join.specs.Drafting.{IsDraftFailed, IsReadFailed, IsSomeDrafted, IsWhole}
-use Rattle.cert_joined.specs.Covers.{JoinsTexts}
+use Rattle.cert_check.specs.Feeding.{IsRefusalOrMemory, IsVerdictOfTaken, IsVerdictOrMemory}
+use Rattle.cert_join.specs.Drafting.{IsDraftFailed, IsReadFailed, IsSomeDrafted, IsUnwritten, IsWhole}
+use Rattle.cert_join.specs.Joining.{IsJoinText}
+use Rattle.cert_join.specs.declared.stop.Stop.TheVariants as stop
+use Rattle.cert_joined.specs.Covers.{AreTextsOf, Cover, JoinsTexts}
 use Rattle.cert_parting.specs.Calls.{IsPartingOn}
 use Rattle.cert_parting.specs.Parting.{AreAgreed, IsFirstApart}
 use Rattle.cert_parting.specs.declared.parting.Place.{Place}
@@ -35,7 +40,7 @@ use Rattle.check_run.specs.declared.status.Status.TheVariants.{Answered, CertRef
 use Rattle.check_run.specs.Both.{IsScriptHeld, status_of}
 use Rattle.check_run.specs.Can.{Can, CanBy, OfProblem}
 use Rattle.check_run.specs.Course.{Course, Quiet, RunEnds, Ends, at_its_end, out_failed, no_memory, StartedEnds, Stopped, appended, draft_fails, goes_on, in_fails, no_memory_left, says}
-use Rattle.check_run.specs.Joined.{AreAllAccepted, CanJoin, IsNotJoined, apart_text, join_starts, joins, keeps, not_joined_line, one_refused, part_line, refused_part_text, refuses}
+use Rattle.check_run.specs.Joined.{AreAllAccepted, CanJoin, HasJoinedFault, IsNotJoined, IsUnjoined, apart_text, join_starts, joins, keeps, lemmas_line, not_joined_line, one_refused, part_line, refused_part_text, refuses}
 use Rattle.check_run.specs.Joined as together
 use Rattle.check_run.specs.Run.{HasCause, JoinHasCause, run_of}
 use Rattle.check_run.specs.Script.{HaltEnds, IsHaltOfFault, IsTooLong}
@@ -45,9 +50,10 @@ use Rattle.check_run.proofs.Ending.{appended-nil}
 use Rattle.check_run.proofs.RunParts.{join_draft, run_started}
 use Rattle.check_run.proofs.Running.{told as told_script}
 use Rattle.dpoly.specs.declared.join.Joint.{Joint}
-use Rattle.dpoly.specs.declared.join.Joint.TheVariants.{Whole, Dropped, Apart, Refused}
-use Rattle.dpoly.specs.Join.{EndsAccepted, EndsApart, EndsOnJoin, EndsOnJoint, EndsRefused, HaltsJoining, IsDraftedJoint, IsFirstFault, IsFirstFaultOn, IsJointOf, IsJointText, IsRefusalWith, IsToldJoint, IsUnread}
+use Rattle.dpoly.specs.declared.join.Joint.TheVariants.{Whole, Dropped, Crowded, Refused}
+use Rattle.dpoly.specs.Join.{AreCrowdedOrUnlike, EndsAccepted, EndsApart, EndsOnJoin, EndsOnJoint, EndsRefused, HaltsJoining, IsDraftedJoint, IsFirstFault, IsFirstFaultOn, IsJointOf, IsJointText, IsRefusalWith, IsToldJoint, IsUnread, fault_line}
 use Rattle.dpoly.proofs.Halting.{by_text, long_halt}
+use Rattle.dpoly.proofs.Joinable.{are_joinable}
 
 -- ---- nothing written
 
@@ -89,45 +95,96 @@ EndsJoint p b count old new x = MatchResult x (λ joint. IsDraftedJoint p b coun
 told-of : (p : Problem) (b : Option ℕ) (text : List ℕ) (r : Result told.Verdict CertFault) (joint : Joint) → IsVerdictOrMemory (verdict p b text) r → IsToldJoint r (Ok joint) → IsJointOf p b text joint
 told-of p b text r (Whole w) h e = subst (λ (x : Result told.Verdict CertFault). IsVerdictOrMemory (verdict p b text) x) e h
 told-of p b text r (Dropped w) h e = subst (λ (x : Result told.Verdict CertFault). IsVerdictOrMemory (verdict p b text) x) e h
-told-of p b text r Apart h e = tt
+told-of p b text r Crowded h e = absurd e
 told-of p b text r (Refused line) h e = tt
 
-joins-told : (parts : List (List ℕ)) (text : List ℕ) (joint : Joint) → JoinsTexts parts text → IsJointText parts text joint
-joins-told parts text (Whole w) h = h
-joins-told parts text (Dropped w) h = h
-joins-told parts text Apart h = tt
-joins-told parts text (Refused line) h = tt
+-- ---- the line of a fault
+
+some-same : (m n : ℕ) → Some m ≡ Some n → m ≡ n
+some-same m n e = cc
+
+-- it is the one where the certificate stops
+stops-at : (fault : CertFault) (n : ℕ) → fault_line fault ≡ Some n → (f : due.CertFault) × (stop_of fault ≡ Some (stopped f n))
+stops-at (numbered.BadHeader m) n e = (due.BadHeader, ap (λ (k : ℕ). Some (stopped due.BadHeader k)) (some-same m n e))
+stops-at (numbered.BadNumber m) n e = (due.BadNumber, ap (λ (k : ℕ). Some (stopped due.BadNumber k)) (some-same m n e))
+stops-at (numbered.RuleFails w m) n e = (due.RuleFails (rule_word w), ap (λ (k : ℕ). Some (stopped (due.RuleFails (rule_word w)) k)) (some-same m n e))
+stops-at (numbered.KeepFails m) n e = (due.KeepFails, ap (λ (k : ℕ). Some (stopped due.KeepFails k)) (some-same m n e))
+stops-at (numbered.OverFails m) n e = (due.OverFails, ap (λ (k : ℕ). Some (stopped due.OverFails k)) (some-same m n e))
+stops-at (numbered.Missing m) n e = (due.Missing, ap (λ (k : ℕ). Some (stopped due.Missing k)) (some-same m n e))
+stops-at (numbered.Extra m) n e = (due.Extra, ap (λ (k : ℕ). Some (stopped due.Extra k)) (some-same m n e))
+stops-at (numbered.WrongBound m) n e = (due.WrongBound, ap (λ (k : ℕ). Some (stopped due.WrongBound k)) (some-same m n e))
+stops-at (numbered.NotShown m) n e = (due.NotShown, ap (λ (k : ℕ). Some (stopped due.NotShown k)) (some-same m n e))
+stops-at (numbered.BadLine m) n e = (due.BadLine, ap (λ (k : ℕ). Some (stopped due.BadLine k)) (some-same m n e))
+stops-at (numbered.LineTooLong m) n e = (due.LineTooLong, ap (λ (k : ℕ). Some (stopped due.LineTooLong k)) (some-same m n e))
+stops-at (numbered.TooLong m) n e = (due.TooLong, ap (λ (k : ℕ). Some (stopped due.TooLong k)) (some-same m n e))
+stops-at numbered.Memory n e = absurd (let none : None ≡ Some n = e in cc)
+
+refused-by : (v : Verdict) (fault : CertFault) (f : due.CertFault) (n : ℕ) → IsRefusalOrMemory v fault → stop_of fault ≡ Some (stopped f n) → v ≡ refused f n
+refused-by v fault f n (inl m) e = absurd (let none : None ≡ Some (stopped f n) = sym (ap stop_of m) ∙ e in cc)
+refused-by (accepted s x) fault f n (inr h) e = absurd h
+refused-by (refused g m) fault f n (inr h) e = let same : Some (stopped g m) ≡ Some (stopped f n) = h ∙ e in cc
+
+-- a text that joins covers has it
+has-fault : (p : Problem) (b : Option ℕ) (parts : List (List ℕ)) (fault : CertFault) (f : due.CertFault) (n : ℕ) → stop_of fault ≡ Some (stopped f n) →
+    ((first : Cover) (others : List Cover) → AreTextsOf (first ∷ others) parts → (text : List ℕ) × IsJoinText (first ∷ others) text × IsRefusalOrMemory (verdict p b text) fault) →
+    HasJoinedFault p b parts f n
+has-fault p b parts fault f n e h first others texts =
+    let x = h first others texts in
+    (x.1.0, x.1.1, ap (verdict p b) (sym x.1.2) ∙ refused-by (verdict p b x.0) fault f n x.2 e)
+
+joins-told : (p : Problem) (b : Option ℕ) (parts : List (List ℕ)) (text : List ℕ) (r : Result told.Verdict CertFault) (joint : Joint) → IsVerdictOrMemory (verdict p b text) r → IsToldJoint r (Ok joint) → JoinsTexts parts text →
+    IsJointText p b parts text joint
+joins-told p b parts text r (Whole w) tells e h = h
+joins-told p b parts text r (Dropped w) tells e h = h
+joins-told p b parts text r Crowded tells e h = absurd e
+joins-told p b parts text r (Refused line) tells e h =
+    let at = stops-at e.0 line e.2 in
+    let refusal : IsRefusalOrMemory (verdict p b text) e.0 = subst (λ (x : Result told.Verdict CertFault). IsVerdictOrMemory (verdict p b text) x) e.1 tells in
+    (at.0, has-fault p b parts e.0 at.0 line at.1 (λ first others texts. (text, h first others texts, refusal)))
 
 pub joint_told : (p : Parts) (b : Option ℕ) (count : ℕ) (old new : Sight) (f : Feed) (r : Result told.Verdict CertFault) (x : Result Joint Status) → IsWhole old p b count [] new f → IsVerdictOfTaken f r → IsToldJoint r x → EndsJoint (problem_of p) b count old new x
 joint_told p b count old new f r (Ok joint) way tells is = record {
   text = way.text;
   drafted = way.by_now.drafted;
   of = told-of (problem_of p) b way.text r joint (tells p b way.text way.by_now.taken) is;
-  joins = λ parts e n. joins-told parts way.text joint (way.joins parts e n);
+  joins = λ parts e n. joins-told (problem_of p) b parts way.text r joint (tells p b way.text way.by_now.taken) is (way.joins parts e n);
 }
 joint_told p b count old new f r (Err status) way tells is = subst (λ (s : Status). HaltsJoining s old new) (sym is) (memory_halts old new (way.text, way.by_now.drafted))
 
 not-said : (fault : CertFault) (joint : Joint) (p : Problem) (b : Option ℕ) (text : List ℕ) → IsToldJoint (Err fault) (Ok joint) → IsJointOf p b text joint
 not-said fault (Whole w) p b text e = cc
 not-said fault (Dropped w) p b text e = cc
-not-said fault Apart p b text e = tt
+not-said fault Crowded p b text e = absurd e
 not-said fault (Refused line) p b text e = tt
 
--- where the checker refused it on the way
-not-joined : (fault : CertFault) (joint : Joint) (parts : List (List ℕ)) (text : List ℕ) → IsToldJoint (Err fault) (Ok joint) → IsJointText parts text joint
-not-joined fault (Whole w) parts text e = cc
-not-joined fault (Dropped w) parts text e = cc
-not-joined fault Apart parts text e = tt
-not-joined fault (Refused line) parts text e = tt
+err-same : (f g : CertFault) → ◌≡◌ {A = Result told.Verdict CertFault} (Err f) (Err g) → f ≡ g
+err-same f g e = cc
 
-pub joint_refused : (p : Problem) (b : Option ℕ) (count : ℕ) (old new : Sight) (fault : CertFault) (x : Result Joint Status) → IsSomeDrafted old new → IsToldJoint (Err fault) x → EndsJoint p b count old new x
-joint_refused p b count old new fault (Ok joint) drafted is = record {
-  text = drafted.0;
-  drafted = drafted.1;
-  of = not-said fault joint p b drafted.0 is;
-  joins = λ parts e n. not-joined fault joint parts drafted.0 is;
+-- where the checker refused it on the way
+not-joined : (p : Problem) (b : Option ℕ) (fault : CertFault) (joint : Joint) (parts : List (List ℕ)) (text : List ℕ) → IsToldJoint (Err fault) (Ok joint) →
+    ((first : Cover) (others : List Cover) → AreTextsOf (first ∷ others) parts → (text : List ℕ) × IsJoinText (first ∷ others) text × IsRefusalOrMemory (verdict p b text) fault) → IsJointText p b parts text joint
+not-joined p b fault (Whole w) parts text e h = cc
+not-joined p b fault (Dropped w) parts text e h = cc
+not-joined p b fault Crowded parts text e h = absurd e
+not-joined p b fault (Refused line) parts text e h =
+    let at = stops-at fault line (ap fault_line (err-same fault e.0 e.1) ∙ e.2) in (at.0, has-fault p b parts fault at.0 line at.1 h)
+
+pub joint_refused : (p : Parts) (b : Option ℕ) (count : ℕ) (old new : Sight) (fault : CertFault) (x : Result Joint Status) → IsUnwritten old p b count [] (stop.Refused fault) new → IsToldJoint (Err fault) x →
+    EndsJoint (problem_of p) b count old new x
+joint_refused p b count old new fault (Ok joint) h is = record {
+  text = h.stopped.0;
+  drafted = h.stopped.1;
+  of = not-said fault joint (problem_of p) b h.stopped.0 is;
+  joins = λ parts e n. not-joined (problem_of p) b fault joint parts h.stopped.0 is (λ first others texts. h.reason parts first others e n texts);
 }
-joint_refused p b count old new fault (Err status) drafted is = subst (λ (s : Status). HaltsJoining s old new) (sym is) (memory_halts old new drafted)
+joint_refused p b count old new fault (Err status) h is = subst (λ (s : Status). HaltsJoining s old new) (sym is) (memory_halts old new h.stopped)
+
+-- the joiner stopped
+pub joint_unlike : (p : Parts) (b : Option ℕ) (count : ℕ) (old new : Sight) → IsUnwritten old p b count [] stop.Unlike new → IsDraftedJoint (problem_of p) b count Crowded old new
+joint_unlike p b count old new h = record { text = h.stopped.0; drafted = h.stopped.1; of = tt; joins = λ parts e n first others texts j. absurd (h.reason parts first others e n texts j) }
+
+pub joint_crowded : (p : Parts) (b : Option ℕ) (count : ℕ) (old new : Sight) → IsUnwritten old p b count [] stop.Crowded new → IsDraftedJoint (problem_of p) b count Crowded old new
+joint_crowded p b count old new h = record { text = h.stopped.0; drafted = h.stopped.1; of = tt; joins = λ parts e n first others texts j. h.reason parts first others e n texts }
 
 -- ---- causes
 
@@ -232,9 +289,18 @@ pub verdict_in : (p : Problem) (b : Option ℕ) (text : List ℕ) (joint : Joint
 verdict_in p b text joint w (inl e) of = subst (λ (j : Joint). IsJointOf p b text j) e of
 verdict_in p b text joint w (inr e) of = subst (λ (j : Joint). IsJointOf p b text j) e of
 
-pub joins_in : (parts : List (List ℕ)) (text : List ℕ) (joint : Joint) (w : told.Verdict) → (joint ≡ Whole w) ⊎ (joint ≡ Dropped w) → IsJointText parts text joint → JoinsTexts parts text
-joins_in parts text joint w (inl e) h = subst (λ (j : Joint). IsJointText parts text j) e h
-joins_in parts text joint w (inr e) h = subst (λ (j : Joint). IsJointText parts text j) e h
+pub joins_in : (p : Problem) (b : Option ℕ) (parts : List (List ℕ)) (text : List ℕ) (joint : Joint) (w : told.Verdict) → (joint ≡ Whole w) ⊎ (joint ≡ Dropped w) → IsJointText p b parts text joint → JoinsTexts parts text
+joins_in p b parts text joint w (inl e) h = subst (λ (j : Joint). IsJointText p b parts text j) e h
+joins_in p b parts text joint w (inr e) h = subst (λ (j : Joint). IsJointText p b parts text j) e h
+
+-- why certificates that agree are not joined
+pub crowded_why : (p : Problem) (b : Option ℕ) (parts : List (List ℕ)) (text : List ℕ) (joint : Joint) → joint ≡ Crowded → AreAllAccepted p b parts → IsJointText p b parts text joint → AreAgreed parts → IsUnjoined p b parts lemmas_line
+crowded_why p b parts text joint e all so agreed =
+    let h : AreCrowdedOrUnlike parts = subst (λ (j : Joint). IsJointText p b parts text j) e so in
+    inl (refl, λ first others texts. h first others texts (are_joinable p b (first ∷ others) parts texts all agreed))
+
+pub refused_why : (p : Problem) (b : Option ℕ) (parts : List (List ℕ)) (text : List ℕ) (joint : Joint) (line : ℕ) → joint ≡ Refused line → IsJointText p b parts text joint → IsUnjoined p b parts line
+refused_why p b parts text joint line e so = inr (subst (λ (j : Joint). IsJointText p b parts text j) e so)
 
 pub kept_joins : (p : Problem) (b : Option ℕ) (parts : List (List ℕ)) (w : told.Verdict) (mid new : Sight) (status : Status) → EndsKept w mid new status → (old : Sight) (text : List ℕ) → IsDrafted old text mid → IsVerdict (verdict p b text) (Ok w) →
     JoinsTexts parts text → StartedEnds (CanJoin p b parts) old new status
@@ -254,22 +320,23 @@ pub apart_reason : (p : Problem) (b : Option ℕ) (parts : List (List ℕ)) (r :
 apart_reason p b parts (Ok text) k n all first e = together.apart k n all first e
 apart_reason p b parts (Err e) k n all first h = tt
 
-pub joined_reason : (p : Problem) (b : Option ℕ) (parts : List (List ℕ)) (r : Result (Vec ℕ Global) AllocError) (n : ℕ) → AreAllAccepted p b parts → AreAgreed parts → IfOk r (λ text. text.items ≡ not_joined_line n) → IfOk r (λ text. IsNotJoined p b parts text.items)
-joined_reason p b parts (Ok text) n all agreed e = together.joined_refused n all agreed e
-joined_reason p b parts (Err e) n all agreed h = tt
+pub joined_reason : (p : Problem) (b : Option ℕ) (parts : List (List ℕ)) (r : Result (Vec ℕ Global) AllocError) (n : ℕ) → AreAllAccepted p b parts → AreAgreed parts → IsUnjoined p b parts n → IfOk r (λ text. text.items ≡ not_joined_line n) → IfOk r (λ text. IsNotJoined p b parts text.items)
+joined_reason p b parts (Ok text) n all agreed why e = together.joined_refused n all agreed why e
+joined_reason p b parts (Err e) n all agreed why h = tt
 
 -- the certificates of a desk, behind what was drafted
 module _ (count : ℕ) (mid read new : Sight) (same : read ≡ mid) (status : Status) (r : Result (Vec ℕ Global) AllocError) (ends : EndsRefused r read new status) where
-  pub parted_ends : (place : Place) → IsPartingOn count mid (Some place) → IfOk r (λ text. text.items ≡ apart_text place.number place.line) → EndsApart count mid new status
-  parted_ends place first tells = λ p b parts old text drafts e n all.
+  pub parted_ends : (place : Place) → IsPartingOn count mid (Some place) → IfOk r (λ text. text.items ≡ apart_text place.number place.line) → (line : ℕ) → EndsApart count line mid new status
+  parted_ends place first tells line = λ p b parts old text drafts e n all why.
       refused_joins p b parts r old new status (apart_reason p b parts r place.number place.line all (first parts (ap (λ (d : Sight). d.parts) drafts ∙ e) n) tells) (ends old text (same ∙ drafts))
 
-  pub agreed_ends : (line : ℕ) → IsPartingOn count mid None → IfOk r (λ text. text.items ≡ not_joined_line line) → EndsApart count mid new status
-  agreed_ends line agreed tells = λ p b parts old text drafts e n all.
-      refused_joins p b parts r old new status (joined_reason p b parts r line all (agreed parts (ap (λ (d : Sight). d.parts) drafts ∙ e) n) tells) (ends old text (same ∙ drafts))
+  pub agreed_ends : (line : ℕ) → IsPartingOn count mid None → IfOk r (λ text. text.items ≡ not_joined_line line) → EndsApart count line mid new status
+  agreed_ends line agreed tells = λ p b parts old text drafts e n all why.
+      let all-agree = agreed parts (ap (λ (d : Sight). d.parts) drafts ∙ e) n in
+      refused_joins p b parts r old new status (joined_reason p b parts r line all all-agree (why all-agree) tells) (ends old text (same ∙ drafts))
 
-pub unread_apart : (count : ℕ) (e : Unread) (mid new : Sight) → IsUnread e mid new → EndsApart count mid new (status_of e)
-unread_apart count e mid new h = λ p b parts old text drafts f n all. unread_ends (CanJoin p b parts) e old mid new text drafts h
+pub unread_apart : (count line : ℕ) (e : Unread) (mid new : Sight) → IsUnread e mid new → EndsApart count line mid new (status_of e)
+unread_apart count line e mid new h = λ p b parts old text drafts f n all why. unread_ends (CanJoin p b parts) e old mid new text drafts h
 
 -- one is refused
 part-reason : (p : Problem) (b : Option ℕ) (parts : List (List ℕ)) (k : ℕ) (f : CertFault) (text : List ℕ) → IsFirstFault p b parts (Some (k, f)) → TellsPart k f text → IsNotJoined p b parts text

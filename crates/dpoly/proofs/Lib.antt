@@ -3,6 +3,7 @@ pub mod Causes
 pub mod Demo
 pub mod GoalUpgrading
 pub mod Halting
+pub mod Joinable
 pub mod Joining
 pub mod Minimizing
 pub mod Planning

@@ -1,5 +1,5 @@
 -- Certificates that are joined, or checked each by itself.
-use Rattle.std.specs.Prelude.{◌≡◌, ◌⊎◌, ℕ, List, [], Option, Some, None, Result, Ok, Err, Vec, length}
+use Rattle.std.specs.Prelude.{◌≡◌, ◌⊎◌, ℕ, List, [], ◌∷◌, Option, Some, None, Result, Ok, Err, Vec, length}
 use Rattle.std.specs.declared.alloc.Global.{Global}
 use Rattle.std.specs.declared.alloc.AllocError.{AllocError}
 use Rattle.desk.specs.declared.desk.Port.TheVariants.{Part}
@@ -11,8 +11,11 @@ use Rattle.cert_model.specs.Due as due
 use Rattle.cert_model.specs.Due.{Value}
 use Rattle.cert_model.specs.Accepted.{Verdict, accepted, stopped, verdict}
 use Rattle.cert_check.specs.declared.checker.Verdict as told
-use Rattle.cert_joined.specs.Covers.{JoinsTexts}
+use Rattle.cert_joined.specs.Covers.{AreTextsOf, Cover, IsCrowded, JoinsTexts}
+use Rattle.cert_join.specs.Heads.{AreJoinable}
+use Rattle.cert_parting.specs.Parting.{AreAgreed}
 use Rattle.cert_check.specs.declared.fault.CertFault.{CertFault}
+use Rattle.cert_check.specs.declared.fault.CertFault.TheVariants as numbered
 use Rattle.cert_check.specs.declared.fault.CertFault.TheVariants.{Memory}
 use Rattle.cert_check.specs.Courses.{IsVerdict}
 use Rattle.cert_check.specs.Faults.{stop_of}
@@ -24,10 +27,10 @@ use Rattle.check_run.specs.declared.check.Unconfirmed.TheVariants.{Fault, Failed
 use Rattle.check_run.specs.declared.status.Status.{Status}
 use Rattle.check_run.specs.declared.status.Status.TheVariants.{CertRefused, NoMemory}
 use Rattle.check_run.specs.Course.{Course, StartedEnds, says}
-use Rattle.check_run.specs.Joined.{AreAllAccepted, CanJoin, IsFirstRefused}
+use Rattle.check_run.specs.Joined.{AreAllAccepted, CanJoin, HasJoinedFault, IsFirstRefused, IsUnjoined}
 use Rattle.check_run.specs.Several.{IsHalted}
 use Rattle.dpoly.specs.declared.join.Joint.{Joint}
-use Rattle.dpoly.specs.declared.join.Joint.TheVariants.{Whole, Dropped, Apart, Refused}
+use Rattle.dpoly.specs.declared.join.Joint.TheVariants.{Whole, Dropped, Crowded, Refused}
 
 -- ---- certificates that are checked by themselves
 
@@ -62,28 +65,49 @@ IsFirstFaultOn p b count d x = (parts : List (List ℕ)) → d.parts ≡ Some pa
 abbrev pub IsJointOf : Problem → Option ℕ → List ℕ → Joint → Type 0
 IsJointOf p b text (Whole w) = IsVerdict (verdict p b text) (Ok w)
 IsJointOf p b text (Dropped w) = IsVerdict (verdict p b text) (Ok w)
-IsJointOf p b text Apart = Unit {0}
+IsJointOf p b text Crowded = Unit {0}
 IsJointOf p b text (Refused line) = Unit {0}
 
--- with a verdict, the text joins the covers of these certificates
-abbrev pub IsJointText : List (List ℕ) → List ℕ → Joint → Type 0
-IsJointText parts text (Whole w) = JoinsTexts parts text
-IsJointText parts text (Dropped w) = JoinsTexts parts text
-IsJointText parts text Apart = Unit {0}
-IsJointText parts text (Refused line) = Unit {0}
+-- the covers of these certificates have too many lemmas, where they may be joined
+abbrev pub AreCrowdedOrUnlike : List (List ℕ) → Type 0
+AreCrowdedOrUnlike parts = (first : Cover) (others : List Cover) → AreTextsOf (first ∷ others) parts → AreJoinable (first ∷ others) → IsCrowded (first ∷ others)
+
+-- with a verdict, the text joins the covers of these certificates; else it tells why they are not joined
+abbrev pub IsJointText : Problem → Option ℕ → List (List ℕ) → List ℕ → Joint → Type 0
+IsJointText p b parts text (Whole w) = JoinsTexts parts text
+IsJointText p b parts text (Dropped w) = JoinsTexts parts text
+IsJointText p b parts text Crowded = AreCrowdedOrUnlike parts
+IsJointText p b parts text (Refused line) = (f : due.CertFault) × HasJoinedFault p b parts f line
 
 -- a text was drafted, and this came of it, where the desk shows so many certificates
 pub record IsDraftedJoint (p : Problem) (b : Option ℕ) (count : ℕ) (joint : Joint) (old new : Sight) : Type 0 where
   pub text : List ℕ
   pub drafted : IsDrafted old text new
   pub of : IsJointOf p b text joint
-  pub joins : (parts : List (List ℕ)) → old.parts ≡ Some parts → length parts ≡ count → IsJointText parts text joint
+  pub joins : (parts : List (List ℕ)) → old.parts ≡ Some parts → length parts ≡ count → IsJointText p b parts text joint
+
+-- the line of a fault; none of out of memory
+abbrev pub fault_line : CertFault → Option ℕ
+fault_line (numbered.BadHeader n) = Some n
+fault_line (numbered.BadNumber n) = Some n
+fault_line (numbered.RuleFails w n) = Some n
+fault_line (numbered.KeepFails n) = Some n
+fault_line (numbered.OverFails n) = Some n
+fault_line (numbered.Missing n) = Some n
+fault_line (numbered.Extra n) = Some n
+fault_line (numbered.WrongBound n) = Some n
+fault_line (numbered.NotShown n) = Some n
+fault_line (numbered.BadLine n) = Some n
+fault_line (numbered.LineTooLong n) = Some n
+fault_line (numbered.TooLong n) = Some n
+fault_line numbered.Memory = None
 
 -- what comes of a verdict, and of a fault
 abbrev pub IsToldJoint : Result told.Verdict CertFault → Result Joint Status → Type 0
 IsToldJoint r (Ok (Whole w)) = r ≡ Ok w
 IsToldJoint r (Ok (Dropped w)) = r ≡ Ok w
-IsToldJoint r (Ok joint) = Unit {0}
+IsToldJoint r (Ok Crowded) = ⊥
+IsToldJoint r (Ok (Refused line)) = (fault : CertFault) × (r ≡ Err fault) × (fault_line fault ≡ Some line)
 IsToldJoint r (Err status) = status ≡ NoMemory
 
 -- the run halts before anything came of it
@@ -102,21 +126,22 @@ IsRefusalWith (Err e) course = ⊥
 abbrev pub EndsRefused : Result (Vec ℕ Global) AllocError → Sight → Sight → Status → Type 0
 EndsRefused r mid new status = (old : Sight) (text : List ℕ) → IsDrafted old text mid → StartedEnds (IsRefusalWith r) old new status
 
--- it ends where the desk shows so many certificates, each is accepted, and there is none that joins them
-abbrev pub EndsApart : ℕ → Sight → Sight → Status → Type 0
-EndsApart count mid new status =
-    (p : Problem) (b : Option ℕ) (parts : List (List ℕ)) (old : Sight) (text : List ℕ) → IsDrafted old text mid → old.parts ≡ Some parts → length parts ≡ count → AreAllAccepted p b parts → StartedEnds (CanJoin p b parts) old new status
+-- it ends where the desk shows so many certificates, each is accepted, and there is none that joins them, which this line shows where they agree
+abbrev pub EndsApart : ℕ → ℕ → Sight → Sight → Status → Type 0
+EndsApart count line mid new status =
+    (p : Problem) (b : Option ℕ) (parts : List (List ℕ)) (old : Sight) (text : List ℕ) → IsDrafted old text mid → old.parts ≡ Some parts → length parts ≡ count → AreAllAccepted p b parts →
+    (AreAgreed parts → IsUnjoined p b parts line) → StartedEnds (CanJoin p b parts) old new status
 
 -- and where this came of them
 abbrev pub EndsAccepted : ℕ → Joint → Sight → Sight → Status → Type 0
 EndsAccepted count joint mid new status =
-    (p : Problem) (b : Option ℕ) (parts : List (List ℕ)) (old : Sight) (text : List ℕ) → IsDrafted old text mid → IsJointOf p b text joint → IsJointText parts text joint → old.parts ≡ Some parts → length parts ≡ count →
+    (p : Problem) (b : Option ℕ) (parts : List (List ℕ)) (old : Sight) (text : List ℕ) → IsDrafted old text mid → IsJointOf p b text joint → IsJointText p b parts text joint → old.parts ≡ Some parts → length parts ≡ count →
     AreAllAccepted p b parts → StartedEnds (CanJoin p b parts) old new status
 
 -- it ends behind its draft, where the desk shows so many certificates
 abbrev pub EndsOnJoint : Problem → Option ℕ → ℕ → Joint → Sight → Sight → Status → Type 0
 EndsOnJoint p b count joint mid new status =
-    (old : Sight) (text : List ℕ) (parts : List (List ℕ)) → IsDrafted old text mid → IsJointOf p b text joint → old.parts ≡ Some parts → length parts ≡ count → IsJointText parts text joint → StartedEnds (CanJoin p b parts) old new status
+    (old : Sight) (text : List ℕ) (parts : List (List ℕ)) → IsDrafted old text mid → IsJointOf p b text joint → old.parts ≡ Some parts → length parts ≡ count → IsJointText p b parts text joint → StartedEnds (CanJoin p b parts) old new status
 
 -- and behind its problem
 abbrev pub EndsOnJoin : Problem → Option ℕ → ℕ → Sight → Sight → Status → Type 0

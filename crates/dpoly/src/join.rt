@@ -7,7 +7,7 @@ ghost use Rattle.check_run.specs.Both.{IsScriptHeld};
 ghost use Rattle.check_run.specs.Course.{StartedEnds};
 ghost use Rattle.check_run.specs.Run.{JoinHasCause};
 ghost use Rattle.check_run.specs.Several.{CanJoinOn};
-ghost use Rattle.dpoly.specs.Join.{EndsAccepted, EndsApart, EndsOnJoin, EndsOnJoint, EndsRefused, HaltsJoining, IsDraftedJoint, IsToldJoint};
+ghost use Rattle.dpoly.specs.Join.{EndsAccepted, EndsApart, EndsOnJoin, EndsOnJoint, EndsRefused, HaltsJoining, IsDraftedJoint, IsToldJoint, fault_line};
 
 use crate::alone::first_fault;
 use cert_check::{CertFault, Feed, Verdict};
@@ -32,14 +32,16 @@ pub enum Joint {
     Whole(Verdict),
     /// One with this verdict.
     Dropped(Verdict),
-    /// They do not go together.
-    Apart,
+    /// They have different headers, or too many lemmas.
+    Crowded,
     /// One that is refused in this line.
     Refused(u64),
 }
 
 // The line of a fault; none of out of memory.
-fn line_of(fault: CertFault) -> Option<u64> {
+fn line_of(fault: CertFault) -> Option<u64>
+    ensures { result ≡ fault_line fault }
+{
     match fault {
         CertFault::BadHeader { line }
         | CertFault::BadNumber { line }
@@ -99,7 +101,8 @@ fn joint_by<D: Desk>(
         Err(Stop::Failed) => Err(Status::InFailed),
         Err(Stop::Denied) => Err(Status::OutFailed),
         Err(Stop::Memory) => Err(Status::NoMemory),
-        Err(Stop::Apart(_)) => Ok(Joint::Apart),
+        Err(Stop::Unlike) => Ok(Joint::Crowded),
+        Err(Stop::Crowded) => Ok(Joint::Crowded),
         Err(Stop::Refused(fault)) => refused(fault),
     }
 }
@@ -139,7 +142,7 @@ fn refuse_with<D: Desk>(desk: &mut D, text: Result<Vec<u8>, AllocError>) -> Stat
 // Refuses certificates that are all accepted: names the first whose margin or delta is not that of the first one, or,
 // where all agree, this line of what was joined.
 fn end_apart<D: Desk>(alloc: Global, desk: &mut D, count: usize, line: u64) -> Status
-    ensures ends { EndsApart count (D.sight desk.old) (D.sight desk.new) result }
+    ensures ends { EndsApart count line (D.sight desk.old) (D.sight desk.new) result }
     ensures cause { JoinHasCause (D.sight desk.old) (D.sight desk.new) result }
     ensures script { (D.sight desk.new).script ≡ (D.sight desk.old).script }
 {
@@ -159,7 +162,7 @@ fn end_accepted<D: Desk>(alloc: Global, desk: &mut D, count: usize, joint: Joint
 {
     match joint {
         Joint::Whole(verdict) | Joint::Dropped(verdict) => keep_joined(alloc, desk, verdict),
-        Joint::Apart => end_apart(alloc, desk, count, LEMMAS_LINE),
+        Joint::Crowded => end_apart(alloc, desk, count, LEMMAS_LINE),
         Joint::Refused(line) => end_apart(alloc, desk, count, line),
     }
 }

@@ -1,5 +1,5 @@
 use Rattle.std.proofs.Common.{ap, Err}
-use Rattle.cert_join.proofs.Drafts.{draft_fails, puts_more, stops_there, stops_within}
+use Rattle.cert_join.proofs.Drafts.{draft_fails, puts_more, refuses_there, stops_there, stops_within}
 use Rattle.cert_join.proofs.drafting.put.Goals as goal
 
 pub returns-in-Err-Failed : goal.returns-in-Err-Failed
@@ -15,4 +15,4 @@ pub returns-in-Err-Memory-piece : goal.returns-in-Err-Memory-piece
 returns-in-Err-Memory-piece g c s p b before way = stops_there s p b before _ _ _ _ way c.in-Ok.ensures.ok
 
 pub returns-in-Err : goal.returns-in-Err
-returns-in-Err g c s p b before way = stops_there s p b before _ _ _ _ way c.in-Ok.ensures.ok
+returns-in-Err g c s p b before way = refuses_there s p b before _ _ _ c.piece.new.self _ c.in-Err.fault way c.in-Ok.ensures.ok c.in-Err.ensures.goes

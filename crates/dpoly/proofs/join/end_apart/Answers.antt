@@ -10,7 +10,7 @@ use Rattle.dpoly.proofs.join.end_apart.Goals as goal
 pub returns-in-Ok-Some-clause-ends : goal.returns-in-Ok-Some-clause-ends
 returns-in-Ok-Some-clause-ends g c =
     parted_ends c.args.count (g.D.Desk.sight c.args.desk.now) (g.D.Desk.sight c.first_parting.new.desk) (g.D.Desk.sight c.refuse_with.new.desk) c.in-Ok-Some.ensures.read c.refuse_with.result c.not_joined_at.result c.refuse_with.ensures.ends c.in-Ok-Some.place
-    (subst (λ (x : Option Place). IsPartingOn c.args.count (g.D.Desk.sight c.args.desk.now) x) c.in-Ok-Some.field-0-is c.in-Ok-Some.ensures.told) c.not_joined_at.ensures
+    (subst (λ (x : Option Place). IsPartingOn c.args.count (g.D.Desk.sight c.args.desk.now) x) c.in-Ok-Some.field-0-is c.in-Ok-Some.ensures.told) c.not_joined_at.ensures c.args.line
 
 pub returns-in-Ok-None-clause-ends : goal.returns-in-Ok-None-clause-ends
 returns-in-Ok-None-clause-ends g c =
@@ -21,7 +21,7 @@ pub returns-in-Err-Failed : goal.returns-in-Err-Failed
 returns-in-Err-Failed g c =
     let h = subst (λ (e : Denied). parting.IsUnread e (g.D.Desk.sight c.args.desk.now) (g.D.Desk.sight c.first_parting.new.desk)) c.in-Err-Failed.field-0-is c.in-Err-Failed.ensures.read in
     record {
-      ends = unread_apart c.args.count unread.Failed (g.D.Desk.sight c.args.desk.now) (g.D.Desk.sight c.first_parting.new.desk) h;
+      ends = unread_apart c.args.count c.args.line unread.Failed (g.D.Desk.sight c.args.desk.now) (g.D.Desk.sight c.first_parting.new.desk) h;
       cause = cause_unread unread.Failed (g.D.Desk.sight c.args.desk.now) (g.D.Desk.sight c.first_parting.new.desk) h;
       script = unread_script unread.Failed (g.D.Desk.sight c.args.desk.now) (g.D.Desk.sight c.first_parting.new.desk) h;
     }
@@ -30,7 +30,7 @@ pub returns-in-Err-Memory : goal.returns-in-Err-Memory
 returns-in-Err-Memory g c =
     let h = subst (λ (e : Denied). parting.IsUnread e (g.D.Desk.sight c.args.desk.now) (g.D.Desk.sight c.first_parting.new.desk)) c.in-Err-Memory.field-0-is c.in-Err-Memory.ensures.read in
     record {
-      ends = unread_apart c.args.count unread.Memory (g.D.Desk.sight c.args.desk.now) (g.D.Desk.sight c.first_parting.new.desk) h;
+      ends = unread_apart c.args.count c.args.line unread.Memory (g.D.Desk.sight c.args.desk.now) (g.D.Desk.sight c.first_parting.new.desk) h;
       cause = cause_unread unread.Memory (g.D.Desk.sight c.args.desk.now) (g.D.Desk.sight c.first_parting.new.desk) h;
       script = unread_script unread.Memory (g.D.Desk.sight c.args.desk.now) (g.D.Desk.sight c.first_parting.new.desk) h;
     }

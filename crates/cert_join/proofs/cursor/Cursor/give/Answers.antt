@@ -16,6 +16,6 @@ returns c = λ cert ls b p o.
     c.drop-drain.ensures.items ∙ c.drain.ensures.kept ∙ rest_at c.self.inside.bytes.items c.self.inside.at c.min-passed.result c.len.result size c.min-passed.ensures in
     let all : c.extend_from_slice.new.self.items ≡ s.unread ++ piece = c.in-Ok.ensures.items ∙ ap (λ (w : List ℕ). w ++ piece) left in
     let behind : c.saturating_add-self-inside.result ≡ s.behind + length piece = omega (arith, c.saturating_add-self-inside.ensures, p'.within, length-drop s.behind cert, b'.reached, b'.few) in
-    subst (λ (u : List ℕ). IsBefore cert ls (record { unread = u; behind = c.saturating_add-self-inside.result; ended = c.is_empty-self-inside.result; size = None; lines = s.lines })) (sym all)
-    (subst (λ (n : ℕ). IsBefore cert ls (record { unread = s.unread ++ piece; behind = n; ended = c.is_empty-self-inside.result; size = None; lines = s.lines })) (sym behind)
+    subst (λ (u : List ℕ). IsBefore cert ls (record { unread = u; behind = c.saturating_add-self-inside.result; ended = c.is_empty-self-inside.result; size = None })) (sym all)
+    (subst (λ (n : ℕ). IsBefore cert ls (record { unread = s.unread ++ piece; behind = n; ended = c.is_empty-self-inside.result; size = None })) (sym behind)
     (before_more cert ls s piece c.is_empty-self-inside.result b' p' (empty_by_test piece c.is_empty-self-inside.result c.is_empty-self-inside.ensures)))

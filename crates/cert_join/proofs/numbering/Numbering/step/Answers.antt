@@ -8,6 +8,6 @@ pub returns : goal.returns
 returns c = λ certs covers t h.
     let old = c.args.self.now in
     let spots = c.args.cursors.now in
-    let d = c.index-cursors-part-2.result in
+    let d = c.index-cursors-part.result in
     let a = turn_of certs covers h.before old spots d t c.if-part-cursors.false h.here in
     numbers_on certs covers h.before old spots d c.read.result c.read.new.self c.read.new.cursor h.all a (c.read.ensures a.cert h.before a.cover a.text a.reading)
