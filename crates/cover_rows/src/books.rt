@@ -448,7 +448,7 @@ const BOOKS: &[Calls] = &[
                 node: 1,
                 quotes: None,
                 state: &LOWER,
-                lines: &[("cut 0 -1b-2", DONE)],
+                lines: &[("cut 1 0", DONE)],
                 reply: Err(Refused::Spent(1)),
             }),
             Call::Learn(&["real 0 0", "real 0 0"], &[("false", DONE)], 0),
