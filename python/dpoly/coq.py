@@ -494,6 +494,8 @@ class Follower:
         for axis in range(axes):
             if axis in self.cover.declared:
                 low, high = lines.due("real", 2)
+                if low > high:
+                    raise checker.CertificateFault("BadNumber")
                 space.append((low, high))
                 if axis in self.axes:
                     box.append(f"side {self.axes[axis]} {grid(low)} {grid(high)}")
