@@ -4,3 +4,5 @@
 
 #[cfg(test)]
 mod of_programmes;
+#[cfg(test)]
+mod table;

@@ -1,233 +1,8 @@
-// Programmes with known least values.
-use semidefinite_program::{Outcome, SemidefiniteProgram, Variable};
+// Programmes that are run towards bounds near their least values.
+use crate::table::{ENDS, ROWS, Row};
+use semidefinite_program::{MOST_ROWS, MOST_SIZE, Outcome, SemidefiniteProgram, Variable};
 use std::alloc::{AllocError, Global};
 use std::test::Fail;
-
-// A programme and its least value.
-struct Row {
-    name: &'static str,
-    rights: &'static [f64],
-    sizes: &'static [usize],
-    scalars: &'static [f64],
-    free: &'static [f64],
-    coefficients: &'static [(usize, Variable, f64)],
-    costs: &'static [(Variable, f64)],
-    least: f64,
-}
-
-// The trace of a matrix of two rows, one of three and one of five.
-const TRACE_2: &[(Variable, f64)] = &[
-    (Variable::Entry(0, 0, 0), 1.0),
-    (Variable::Entry(0, 1, 1), 1.0),
-];
-
-const TRACE_3: &[(Variable, f64)] = &[
-    (Variable::Entry(0, 0, 0), 1.0),
-    (Variable::Entry(0, 1, 1), 1.0),
-    (Variable::Entry(0, 2, 2), 1.0),
-];
-
-const ROWS: [Row; 10] = [
-    Row {
-        name: "the least trace with a one beside the diagonal",
-        rights: &[1.0],
-        sizes: &[2],
-        scalars: &[],
-        free: &[],
-        coefficients: &[(0, Variable::Entry(0, 0, 1), 1.0)],
-        costs: TRACE_2,
-        least: 2.0,
-    },
-    // s + 2 / s for the middle entry s
-    Row {
-        name: "the least trace with two ones beside the diagonal",
-        rights: &[1.0, 1.0],
-        sizes: &[3],
-        scalars: &[],
-        free: &[],
-        coefficients: &[
-            (0, Variable::Entry(0, 0, 1), 1.0),
-            (1, Variable::Entry(0, 2, 1), 1.0),
-        ],
-        costs: TRACE_3,
-        least: 2.828_427_124_7,
-    },
-    // of twos on the diagonal and ones beside it
-    Row {
-        name: "the least eigenvalue of three rows",
-        rights: &[1.0],
-        sizes: &[3],
-        scalars: &[],
-        free: &[],
-        coefficients: &[
-            (0, Variable::Entry(0, 0, 0), 1.0),
-            (0, Variable::Entry(0, 1, 1), 1.0),
-            (0, Variable::Entry(0, 2, 2), 1.0),
-        ],
-        costs: &[
-            (Variable::Entry(0, 0, 0), 2.0),
-            (Variable::Entry(0, 1, 1), 2.0),
-            (Variable::Entry(0, 2, 2), 2.0),
-            (Variable::Entry(0, 0, 1), 2.0),
-            (Variable::Entry(0, 1, 2), 2.0),
-        ],
-        least: 0.585_786_437_6,
-    },
-    // Lovasz 1979: the square root of 5
-    Row {
-        name: "the capacity of the pentagon",
-        rights: &[1.0, 0.0, 0.0, 0.0, 0.0, 0.0],
-        sizes: &[5],
-        scalars: &[],
-        free: &[],
-        coefficients: &[
-            (0, Variable::Entry(0, 0, 0), 1.0),
-            (0, Variable::Entry(0, 1, 1), 1.0),
-            (0, Variable::Entry(0, 2, 2), 1.0),
-            (0, Variable::Entry(0, 3, 3), 1.0),
-            (0, Variable::Entry(0, 4, 4), 1.0),
-            (1, Variable::Entry(0, 0, 1), 1.0),
-            (2, Variable::Entry(0, 1, 2), 1.0),
-            (3, Variable::Entry(0, 2, 3), 1.0),
-            (4, Variable::Entry(0, 3, 4), 1.0),
-            (5, Variable::Entry(0, 4, 0), 1.0),
-        ],
-        costs: &[
-            (Variable::Entry(0, 0, 0), -1.0),
-            (Variable::Entry(0, 1, 1), -1.0),
-            (Variable::Entry(0, 2, 2), -1.0),
-            (Variable::Entry(0, 3, 3), -1.0),
-            (Variable::Entry(0, 4, 4), -1.0),
-            (Variable::Entry(0, 0, 1), -2.0),
-            (Variable::Entry(0, 0, 2), -2.0),
-            (Variable::Entry(0, 0, 3), -2.0),
-            (Variable::Entry(0, 0, 4), -2.0),
-            (Variable::Entry(0, 1, 2), -2.0),
-            (Variable::Entry(0, 1, 3), -2.0),
-            (Variable::Entry(0, 1, 4), -2.0),
-            (Variable::Entry(0, 2, 3), -2.0),
-            (Variable::Entry(0, 2, 4), -2.0),
-            (Variable::Entry(0, 3, 4), -2.0),
-        ],
-        least: -2.236_067_977_5,
-    },
-    // 2 x + 3 y where x + y is 4 or more and x + 3 y is 6 or more: at (3, 1)
-    Row {
-        name: "a linear programme",
-        rights: &[4.0, 6.0],
-        sizes: &[],
-        scalars: &[2.0, 3.0, 0.0, 0.0],
-        free: &[],
-        coefficients: &[
-            (0, Variable::Scalar(0), 1.0),
-            (0, Variable::Scalar(1), 1.0),
-            (0, Variable::Scalar(2), -1.0),
-            (1, Variable::Scalar(0), 1.0),
-            (1, Variable::Scalar(1), 3.0),
-            (1, Variable::Scalar(3), -1.0),
-        ],
-        costs: &[],
-        least: 9.0,
-    },
-    // the least t with t on the diagonal and a one beside it
-    Row {
-        name: "a free number on the diagonal",
-        rights: &[0.0, 0.0, 1.0],
-        sizes: &[2],
-        scalars: &[],
-        free: &[1.0],
-        coefficients: &[
-            (0, Variable::Entry(0, 0, 0), 1.0),
-            (0, Variable::Free(0), -1.0),
-            (1, Variable::Entry(0, 1, 1), 1.0),
-            (1, Variable::Free(0), -1.0),
-            (2, Variable::Entry(0, 0, 1), 1.0),
-        ],
-        costs: &[],
-        least: 1.0,
-    },
-    // the greatest g, with the other sign, so that x^4 - 2 x^2 - g is a sum of squares: rows by powers of x, over 1, x, x^2
-    Row {
-        name: "a lower bound of a quartic",
-        rights: &[0.0, 0.0, -2.0, 0.0, 1.0],
-        sizes: &[3],
-        scalars: &[],
-        free: &[-1.0],
-        coefficients: &[
-            (0, Variable::Entry(0, 0, 0), 1.0),
-            (0, Variable::Free(0), 1.0),
-            (1, Variable::Entry(0, 0, 1), 2.0),
-            (2, Variable::Entry(0, 0, 2), 2.0),
-            (2, Variable::Entry(0, 1, 1), 1.0),
-            (3, Variable::Entry(0, 1, 2), 2.0),
-            (4, Variable::Entry(0, 2, 2), 1.0),
-        ],
-        costs: &[],
-        least: 1.0,
-    },
-    // the least s so that (x - y)^2 + 1 + s (1 + x^2 + y^2) is a sum of squares: rows 1, x, y, x^2, x y, y^2
-    Row {
-        name: "a sum of squares",
-        rights: &[1.0, 0.0, 0.0, 1.0, -2.0, 1.0],
-        sizes: &[3],
-        scalars: &[],
-        free: &[1.0],
-        coefficients: &[
-            (0, Variable::Entry(0, 0, 0), 1.0),
-            (0, Variable::Free(0), -1.0),
-            (1, Variable::Entry(0, 0, 1), 2.0),
-            (2, Variable::Entry(0, 0, 2), 2.0),
-            (3, Variable::Entry(0, 1, 1), 1.0),
-            (3, Variable::Free(0), -1.0),
-            (4, Variable::Entry(0, 1, 2), 2.0),
-            (5, Variable::Entry(0, 2, 2), 1.0),
-            (5, Variable::Free(0), -1.0),
-        ],
-        costs: &[],
-        least: 0.0,
-    },
-    // the same of x y, which is none: 0.5 is above 0
-    Row {
-        name: "no sum of squares",
-        rights: &[0.0, 0.0, 0.0, 0.0, 1.0, 0.0],
-        sizes: &[3],
-        scalars: &[],
-        free: &[1.0],
-        coefficients: &[
-            (0, Variable::Entry(0, 0, 0), 1.0),
-            (0, Variable::Free(0), -1.0),
-            (1, Variable::Entry(0, 0, 1), 2.0),
-            (2, Variable::Entry(0, 0, 2), 2.0),
-            (3, Variable::Entry(0, 1, 1), 1.0),
-            (3, Variable::Free(0), -1.0),
-            (4, Variable::Entry(0, 1, 2), 2.0),
-            (5, Variable::Entry(0, 2, 2), 1.0),
-            (5, Variable::Free(0), -1.0),
-        ],
-        costs: &[],
-        least: 0.5,
-    },
-    // a row that two blocks and a scalar share: the scalar's part costs least
-    Row {
-        name: "two blocks and a scalar",
-        rights: &[3.0],
-        sizes: &[2, 2],
-        scalars: &[1.0],
-        free: &[],
-        coefficients: &[
-            (0, Variable::Entry(0, 0, 1), 1.0),
-            (0, Variable::Entry(1, 0, 1), 1.0),
-            (0, Variable::Scalar(0), 1.0),
-        ],
-        costs: &[
-            (Variable::Entry(0, 0, 0), 1.0),
-            (Variable::Entry(0, 1, 1), 1.0),
-            (Variable::Entry(1, 0, 0), 2.0),
-            (Variable::Entry(1, 1, 1), 2.0),
-        ],
-        least: 3.0,
-    },
-];
 
 // Adds the numbers of a programme.
 fn add_numbers(
@@ -252,20 +27,28 @@ fn add_terms(programme: &mut SemidefiniteProgram, row: &Row) -> Result<(), Alloc
     for (k, variable, coefficient) in row.coefficients {
         programme.add_coefficient(*k, *variable, *coefficient)?;
     }
-    for (variable, cost) in row.costs {
-        programme.add_cost(*variable, *cost);
+    for (block, first, second, cost) in row.costs {
+        programme.add_cost(*block, *first, *second, *cost);
     }
     Ok(())
 }
 
-// What a run towards this bound ends with; none where there are too many rows.
-fn outcome(alloc: Global, row: &Row, below: f64) -> Result<Option<Outcome>, AllocError> {
+// The programme of a row; none where there are too many rows or too large blocks.
+fn programme(alloc: Global, row: &Row) -> Result<Option<SemidefiniteProgram>, AllocError> {
     let Some(mut programme) = SemidefiniteProgram::new(alloc, row.rights)? else {
         return Ok(None);
     };
     add_numbers(alloc, &mut programme, row)?;
     add_terms(&mut programme, row)?;
-    Ok(Some(programme.run(alloc, 100, below)?))
+    Ok(Some(programme))
+}
+
+// What a run towards this bound ends with.
+fn outcome(alloc: Global, row: &Row, below: f64) -> Result<Option<Outcome>, AllocError> {
+    match programme(alloc, row)? {
+        None => Ok(None),
+        Some(mut programme) => Ok(Some(programme.run(alloc, 100, below)?)),
+    }
 }
 
 #[test]
@@ -282,6 +65,80 @@ fn nothing_is_below_the_least_values(rt: HostRuntime) -> Result<(), Fail> {
     for row in &ROWS {
         let under = outcome(rt.alloc(), row, row.least - 1e-4)?;
         assert_eq!(rt; under, Some(Outcome::NotBelow), "{}", row.name);
+    }
+    Ok(())
+}
+
+#[test]
+fn other_programmes_end_otherwise(rt: HostRuntime) -> Result<(), Fail> {
+    for (row, below, wanted) in &ENDS {
+        let found = outcome(rt.alloc(), row, *below)?;
+        assert_eq!(rt; found, Some(*wanted), "{}", row.name);
+    }
+    Ok(())
+}
+
+// ---- values
+
+// Whether two numbers are near to each other.
+fn is_near(a: f64, b: f64) -> bool {
+    a - b < 1e-3 && b - a < 1e-3
+}
+
+// Whether the quartic's bound and its square are as they have to be: 1 - 2 x^2 + x^4.
+fn is_square(programme: &SemidefiniteProgram) -> bool {
+    is_near(programme.value(Variable::Free(0)), -1.0)
+        && is_near(programme.value(Variable::Entry(0, 0, 0)), 1.0)
+        && is_near(programme.value(Variable::Entry(0, 2, 0)), -1.0)
+        && is_near(programme.value(Variable::Entry(0, 2, 2)), 1.0)
+        && is_near(programme.objective(), 1.0)
+}
+
+// Whether the first factor is that of the square, 1 - x^2.
+fn is_factored(alloc: Global, programme: &SemidefiniteProgram) -> Result<bool, AllocError> {
+    match programme.factor(alloc, 0)? {
+        Some(factor) if factor.len() == 3 && factor[0].len() == 3 => {
+            Ok(is_near(factor[0][0], 1.0) && is_near(factor[0][2], -1.0))
+        }
+        _ => Ok(false),
+    }
+}
+
+// Whether runs go on from one another, to the square.
+fn goes_on(alloc: Global, programme: &mut SemidefiniteProgram) -> Result<bool, AllocError> {
+    let first = programme.run(alloc, 100, 1.5)?;
+    let turns = programme.turns();
+    let last = programme.run(alloc, 100, 1.00001)?;
+    Ok(
+        first == Outcome::Below
+            && last == Outcome::Below
+            && programme.turns() > turns
+            && is_square(programme)
+            && is_factored(alloc, programme)?,
+    )
+}
+
+#[test]
+fn runs_go_on(rt: HostRuntime) -> Result<(), Fail> {
+    match programme(rt.alloc(), &ROWS[6])? {
+        None => assert!(rt; false),
+        Some(mut programme) => assert!(rt; goes_on(rt.alloc(), &mut programme)?),
+    }
+    Ok(())
+}
+
+// ---- limits
+
+#[test]
+fn large_programmes_are_refused(rt: HostRuntime) -> Result<(), Fail> {
+    let rights = vec![in rt.alloc(); 0.0; MOST_ROWS + 1]?;
+    assert!(rt; SemidefiniteProgram::new(rt.alloc(), &rights)?.is_none());
+    match SemidefiniteProgram::new(rt.alloc(), &[1.0])? {
+        None => assert!(rt; false),
+        Some(mut programme) => {
+            assert_eq!(rt; programme.add_block(rt.alloc(), MOST_SIZE + 1)?, None);
+            assert_eq!(rt; programme.add_block(rt.alloc(), 2)?, Some(0));
+        }
     }
     Ok(())
 }

@@ -59,7 +59,8 @@ impl Column {
     }
 }
 
-/// A number that is at least 0, and its dual, the slack of its cost; with what one turn finds of both.
+/// A number that is at least 0, and its dual, the slack of its cost; with what one turn finds of
+/// both.
 #[derive(Drop)]
 pub struct Scalar {
     pub column: Column,

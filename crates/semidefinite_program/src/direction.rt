@@ -1,6 +1,6 @@
-// The direction of a turn: the steps of all matrices and numbers towards a point whose products with the duals are all the
-// same (Helmberg, Rendl, Vanderbei and Wolkowicz 1996).
-use crate::block::{Block, add_sums};
+// The direction of a turn: the steps of all matrices and numbers towards a point whose products
+// with the duals are all the same (Helmberg, Rendl, Vanderbei and Wolkowicz 1996).
+use crate::block::{Block, add_products, add_sums};
 use crate::column::Scalar;
 use crate::factor::solve;
 use crate::lists::{copy, set};
@@ -9,17 +9,22 @@ use crate::program::SemidefiniteProgram;
 use crate::schur::FREE_WEIGHT;
 use std::alloc::Global;
 
-// An entry of the step of X, from the inverse of Z, X, and the product that is to be taken from it, made symmetric.
-fn primal_entry(
-    i: usize,
-    k: usize,
+// Makes a matrix the step of X: so many times the inverse of Z, less X and a product, made
+// symmetric.
+fn find_step(
+    step: &mut [Vec<f64, Global>],
     centre: f64,
     inverse: &[Vec<f64, Global>],
     primal: &[Vec<f64, Global>],
     product: &[Vec<f64, Global>],
-) -> f64 {
-    let taken = 0.5 * (entry(product, i, k) + entry(product, k, i));
-    centre * entry(inverse, i, k) - entry(primal, i, k) - taken
+) {
+    for i in 0..step.len() {
+        for k in 0..step.len() {
+            let taken = 0.5 * (entry(product, i, k) + entry(product, k, i));
+            let x = centre * entry(inverse, i, k) - entry(primal, i, k) - taken;
+            set(&mut step[i], k, x);
+        }
+    }
 }
 
 impl Block {
@@ -39,33 +44,35 @@ impl Block {
 
     // Adds its part of the right side of the equations for the multipliers' step.
     fn add_right(&self, centre: f64, rights: &mut [f64]) {
-        self.add_products(&self.room.base, 1.0, rights);
-        self.add_products(&self.room.inverse, -centre, rights);
-        self.add_products(&self.point.primal, 1.0, rights);
-        self.add_products(&self.room.corrector, 1.0, rights);
+        let room = &self.room;
+        add_products(&self.terms, &room.base, 1.0, rights);
+        add_products(&self.terms, &room.inverse, -centre, rights);
+        add_products(&self.terms, &self.point.primal, 1.0, rights);
+        add_products(&self.terms, &room.corrector, 1.0, rights);
     }
 
     // Finds the step of Z.
     fn find_dual_step(&mut self, multipliers: &[f64]) {
-        let step = &mut self.step.dual;
-        copy_all(step, &self.room.residual);
-        add_sums(&self.entries, multipliers, -1.0, step);
+        let step = &mut self.step;
+        copy_all(&mut step.dual, &self.room.residual);
+        add_sums(&self.terms, multipliers, -1.0, &mut step.dual);
     }
 
     // Finds the step of X, by that of Z.
     fn find_primal_step(&mut self, centre: f64) {
         let room = &mut self.room;
-        let primal = &self.point.primal;
-        multiply(&mut room.half_product, primal, &self.step.dual);
+        let step = &mut self.step;
+        let point = &self.point;
+        multiply(&mut room.half_product, &point.primal, &step.dual);
         multiply(&mut room.product, &room.half_product, &room.inverse);
         add_all(&mut room.product, 1.0, &room.corrector);
-        let step = &mut self.step.primal;
-        for i in 0..step.len() {
-            for k in 0..step.len() {
-                let x = primal_entry(i, k, centre, &room.inverse, primal, &room.product);
-                set(&mut step[i], k, x);
-            }
-        }
+        find_step(
+            &mut step.primal,
+            centre,
+            &room.inverse,
+            &point.primal,
+            &room.product,
+        );
     }
 }
 
@@ -111,7 +118,8 @@ impl SemidefiniteProgram {
         }
     }
 
-    // Makes the list the right side of the equations for the multipliers' step, from what is left of the rows.
+    // Makes the list the right side of the equations for the multipliers' step, from what is left
+    // of the rows.
     fn find_rights(&self, centre: f64, rests: &[f64], rights: &mut [f64]) {
         copy(rights, rests);
         for block in &self.blocks {
@@ -125,7 +133,8 @@ impl SemidefiniteProgram {
         }
     }
 
-    /// Finds the direction towards this centre, by the factor of the complement; the list gets the step of the multipliers.
+    /// Finds the direction towards this centre, by the factor of the complement; the list gets
+    /// the step of the multipliers.
     pub(crate) fn find_direction(
         &mut self,
         centre: f64,

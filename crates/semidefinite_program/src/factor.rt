@@ -1,5 +1,5 @@
-// Cholesky factors: of a symmetric positive definite matrix A the upper triangular U with A = U' U (Golub and Van Loan 1996,
-// 4.2). Of A and of U the lower half is never read.
+// Cholesky factors: of a symmetric positive definite matrix A the upper triangular U with A = U'
+// U (Golub and Van Loan 1996, 4.2). Of A and of U the lower half is never read.
 use crate::lists::{add, add_multiple_from, add_two_multiples, at, clear, copy, product_from, set};
 use crate::matrix::entry;
 use std::alloc::Global;
@@ -14,7 +14,8 @@ fn scale_from(xs: &mut [f64], from: usize, by: f64) {
     }
 }
 
-// Takes from the line, a copy of row i of a matrix, what the rows of the factor above it account for, two by two.
+// Takes from the line, a copy of row i of a matrix, what the rows of the factor above it account
+// for, two by two.
 fn reduce(factor: &[Vec<f64, Global>], i: usize, line: &mut [f64]) {
     if i > factor.len() {
         return;
@@ -32,8 +33,8 @@ fn reduce(factor: &[Vec<f64, Global>], i: usize, line: &mut [f64]) {
     }
 }
 
-/// Makes the upper half of a matrix that of its factor, over a line that is as long as a row; whether each pivot was
-/// above 0. After an answer of no its entries mean nothing.
+/// Makes the upper half of a matrix that of its factor, over a line that is as long as a row;
+/// whether each pivot was above 0. After an answer of no its entries mean nothing.
 pub fn factor(rows: &mut [Vec<f64, Global>], line: &mut [f64]) -> bool {
     for i in 0..rows.len() {
         copy(line, &rows[i]);
@@ -46,6 +47,15 @@ pub fn factor(rows: &mut [Vec<f64, Global>], line: &mut [f64]) -> bool {
         copy(&mut rows[i], line);
     }
     true
+}
+
+/// Makes the entries below the diagonal 0.
+pub fn clear_below_diagonal(rows: &mut [Vec<f64, Global>]) {
+    for i in 0..rows.len() {
+        for k in 0..i {
+            set(&mut rows[i], k, 0.0);
+        }
+    }
 }
 
 // Makes the line row i of the inverse of the factor, from the rows of the inverse below it.
@@ -66,7 +76,8 @@ fn inverse_row(
     scale_from(line, i, 1.0 / entry(factor, i, i));
 }
 
-/// Makes the matrix the inverse of the factor, which is upper triangular, over a line that is as long as a row.
+/// Makes the matrix the inverse of the factor, which is upper triangular, over a line that is as
+/// long as a row.
 pub fn invert_factor(
     factor: &[Vec<f64, Global>],
     inverse: &mut [Vec<f64, Global>],

@@ -14,11 +14,11 @@ pub fn zeros(alloc: Global, count: usize) -> Result<Matrix, AllocError> {
     Ok(rows)
 }
 
-/// The matrix with ones on its diagonal and zeros elsewhere.
-pub fn identity(alloc: Global, count: usize) -> Result<Matrix, AllocError> {
+/// The matrix with this number on its diagonal and zeros elsewhere.
+pub fn diagonal(alloc: Global, count: usize, number: f64) -> Result<Matrix, AllocError> {
     let mut rows = zeros(alloc, count)?;
-    for i in 0..rows.len() {
-        add(&mut rows[i], i, 1.0);
+    for i in 0..count {
+        add_entry(&mut rows, i, i, number);
     }
     Ok(rows)
 }

@@ -1,7 +1,7 @@
 // A programme: its rows, blocks, scalars and free numbers, and how it is built and read.
-use crate::block::{Block, Entry};
+use crate::block::Block;
 use crate::column::{Free, Scalar};
-use crate::matrix::{Matrix, add_entry, entry};
+use crate::matrix::{Matrix, entry};
 use std::alloc::{AllocError, Global};
 
 /// A programme has at most so many rows.
@@ -13,7 +13,8 @@ pub const MOST_SIZE: usize = 128;
 /// A number of a programme.
 #[derive(Clone, Copy)]
 pub enum Variable {
-    /// The entry of a block in this row and this column, and in this column and this row, which are one.
+    /// The entry of a block in this row and this column, and in this column and this row, which
+    /// are one.
     Entry(usize, usize, usize),
     /// A scalar, which is at least 0.
     Scalar(usize),
@@ -21,9 +22,10 @@ pub enum Variable {
     Free(usize),
 }
 
-/// A semidefinite programme in standard form: the least of a linear objective, the sum of costs times numbers, where each
-/// row, a sum of coefficients times numbers, is its right side; the blocks are positive semidefinite matrices, the scalars
-/// at least 0. Each has its present value, and one of the dual programme.
+/// A semidefinite programme in standard form: the least of a linear objective, the sum of costs
+/// times numbers, where each row, a sum of coefficients times numbers, is its right side; the
+/// blocks are positive semidefinite matrices, the scalars at least 0. Each has its present value,
+/// and one of the dual programme.
 #[derive(Drop)]
 pub struct SemidefiniteProgram {
     /// the right sides of the rows
@@ -38,14 +40,17 @@ pub struct SemidefiniteProgram {
 }
 
 impl SemidefiniteProgram {
-    /// The programme of these right sides of rows, without numbers; none where there are more than [`MOST_ROWS`].
+    /// The programme of these right sides of rows, without numbers; none where there are more
+    /// than [`MOST_ROWS`].
     pub fn new(alloc: Global, rights: &[f64]) -> Result<Option<SemidefiniteProgram>, AllocError> {
         if rights.len() > MOST_ROWS {
             return Ok(None);
         }
+        let multipliers = vec![in alloc; 0.0; rights.len()]?;
+        let rights = Vec::from_slice(alloc, rights)?;
         Ok(Some(SemidefiniteProgram {
-            rights: Vec::from_slice(alloc, rights)?,
-            multipliers: vec![in alloc; 0.0; rights.len()]?,
+            rights,
+            multipliers,
             blocks: Vec::new(alloc),
             scalars: Vec::new(alloc),
             free: Vec::new(alloc),
@@ -53,7 +58,8 @@ impl SemidefiniteProgram {
         }))
     }
 
-    /// Adds a block of this size, and gives its number; none where it is greater than [`MOST_SIZE`].
+    /// Adds a block of this size, and gives its number; none where it is greater than
+    /// [`MOST_SIZE`].
     pub fn add_block(&mut self, alloc: Global, size: usize) -> Result<Option<usize>, AllocError> {
         if size > MOST_SIZE {
             return Ok(None);
@@ -77,7 +83,8 @@ impl SemidefiniteProgram {
         Ok(number)
     }
 
-    /// Adds a coefficient of a number to a row. Of a row or a number that is not there it says nothing.
+    /// Adds a coefficient of a number to a row. Of a row or a number that is not there it says
+    /// nothing.
     pub fn add_coefficient(
         &mut self,
         row: usize,
@@ -85,60 +92,67 @@ impl SemidefiniteProgram {
         coefficient: f64,
     ) -> Result<(), AllocError> {
         match variable {
-            Variable::Entry(b, first, second) if b < self.blocks.len() => {
-                let half = 0.5 * coefficient;
-                self.blocks[b].entries.push(Entry {
-                    row,
-                    first,
-                    second,
-                    half,
-                })?;
+            Variable::Entry(b, first, second) => {
+                if b < self.blocks.len() {
+                    self.blocks[b].add(row, first, second, coefficient)?;
+                }
             }
-            Variable::Scalar(i) if i < self.scalars.len() => {
-                self.scalars[i].column.add(row, coefficient)?;
+            Variable::Scalar(i) => {
+                if i < self.scalars.len() {
+                    self.scalars[i].column.add(row, coefficient)?;
+                }
             }
-            Variable::Free(i) if i < self.free.len() => {
-                self.free[i].column.add(row, coefficient)?;
+            Variable::Free(i) => {
+                if i < self.free.len() {
+                    self.free[i].column.add(row, coefficient)?;
+                }
             }
-            _ => {}
         }
         Ok(())
     }
 
-    /// Adds to the cost of a number.
-    pub fn add_cost(&mut self, variable: Variable, cost: f64) {
-        match variable {
-            Variable::Entry(b, first, second) if b < self.blocks.len() => {
-                let costs = &mut self.blocks[b].costs;
-                add_entry(costs, first, second, 0.5 * cost);
-                add_entry(costs, second, first, 0.5 * cost);
-            }
-            Variable::Scalar(i) if i < self.scalars.len() => {
-                self.scalars[i].column.cost += cost;
-            }
-            Variable::Free(i) if i < self.free.len() => self.free[i].column.cost += cost,
-            _ => {}
+    /// Adds to the cost of an entry of a block, and of its mirror, which are one number.
+    pub fn add_cost(&mut self, block: usize, first: usize, second: usize, cost: f64) {
+        if block < self.blocks.len() {
+            self.blocks[block].add_cost(first, second, cost);
         }
     }
 
     /// The present value of a number; 0 of one that is not there.
     pub fn value(&self, variable: Variable) -> f64 {
         match variable {
-            Variable::Entry(b, first, second) if b < self.blocks.len() => {
-                entry(&self.blocks[b].point.primal, first, second)
+            Variable::Entry(b, first, second) => {
+                if b < self.blocks.len() {
+                    let block = &self.blocks[b];
+                    entry(&block.point.primal, first, second)
+                } else {
+                    0.0
+                }
             }
-            Variable::Scalar(i) if i < self.scalars.len() => self.scalars[i].primal,
-            Variable::Free(i) if i < self.free.len() => self.free[i].value,
-            _ => 0.0,
+            Variable::Scalar(i) => {
+                if i < self.scalars.len() {
+                    self.scalars[i].primal
+                } else {
+                    0.0
+                }
+            }
+            Variable::Free(i) => {
+                if i < self.free.len() {
+                    self.free[i].value
+                } else {
+                    0.0
+                }
+            }
         }
     }
 
-    /// The present matrix of a block, if it is there.
-    pub fn matrix(&self, block: usize) -> Option<&Matrix> {
+    /// The Cholesky factor U, upper triangular, of the present matrix U' U of a block; none where
+    /// that is not positive definite in floats, or not there.
+    pub fn factor(&self, alloc: Global, block: usize) -> Result<Option<Matrix>, AllocError> {
         if block < self.blocks.len() {
-            Some(&self.blocks[block].point.primal)
+            self.blocks[block].factor(alloc)
         } else {
-            None
+            Ok(None)
         }
     }
 

@@ -1,9 +1,10 @@
 // What is left of the equations of a programme and of its dual.
-use crate::block::{Block, add_sums};
+use crate::block::{Block, add_products, add_sums};
 use crate::column::{Free, Scalar};
 use crate::lists::{at, greater, product, size, sum_of_sizes};
 use crate::matrix::{add_all, copy_all, greatest_size, inner};
 use crate::program::SemidefiniteProgram;
+use std::num::nearest_usize_to_f64;
 
 /// What is left at a point, and how far it is from an optimum.
 #[derive(Clone, Copy)]
@@ -23,10 +24,10 @@ pub(crate) struct Residuals {
 impl Block {
     // Finds what the costs are more than the dual matrix and the rows' multipliers account for.
     fn find_residual(&mut self, multipliers: &[f64]) {
-        let residual = &mut self.room.residual;
-        copy_all(residual, &self.costs);
-        add_all(residual, -1.0, &self.point.dual);
-        add_sums(&self.entries, multipliers, -1.0, residual);
+        let room = &mut self.room;
+        copy_all(&mut room.residual, &self.costs);
+        add_all(&mut room.residual, -1.0, &self.point.dual);
+        add_sums(&self.terms, multipliers, -1.0, &mut room.residual);
     }
 }
 
@@ -66,7 +67,7 @@ impl SemidefiniteProgram {
             rests[k] = at(&self.rights, k);
         }
         for block in &self.blocks {
-            block.add_products(&block.point.primal, -1.0, rests);
+            add_products(&block.terms, &block.point.primal, -1.0, rests);
         }
         for scalar in &self.scalars {
             scalar.column.add_to(rests, -scalar.primal);
@@ -115,14 +116,9 @@ impl SemidefiniteProgram {
 
     /// The number of eigenvalues of all matrices, and of scalars.
     pub(crate) fn degree(&self) -> f64 {
-        let mut total = 0.0;
+        let mut total = nearest_usize_to_f64(self.scalars.len());
         for block in &self.blocks {
-            for _ in 0..block.size() {
-                total += 1.0;
-            }
-        }
-        for _ in 0..self.scalars.len() {
-            total += 1.0;
+            total += nearest_usize_to_f64(block.costs.len());
         }
         total
     }

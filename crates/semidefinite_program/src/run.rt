@@ -14,7 +14,8 @@ const REST_WEIGHT: f64 = 2.0;
 /// Rows that are off by more together than this are not met.
 const MOST_REST: f64 = 1.0;
 
-/// The dual equations hold where none is off by more, and the dual objective is then known up to this.
+/// The dual equations hold where none is off by more, and the dual objective is then known up to
+/// this.
 const DUAL_SLACK: f64 = 1e-6;
 
 /// Below this the matrices are too near to singular ones to go on.
@@ -34,7 +35,8 @@ const MOST_PART: f64 = 0.8;
 /// What a run ends with.
 #[derive(Clone, Copy, PartialEq, Eq, Debug)]
 pub enum Outcome {
-    /// The objective is below the bound, by more than twice what the rows are off by together, which is less than 1.
+    /// The objective is below the bound, by more than twice what the rows are off by together,
+    /// which is less than 1.
     Below,
     /// The dual values show that it does not get there, up to rounding.
     NotBelow,
@@ -42,7 +44,8 @@ pub enum Outcome {
     Unknown,
 }
 
-// What the turns of a run share: the complement and its factor, what is left of the rows, and the multipliers' step.
+// What the turns of a run share: the complement and its factor, what is left of the rows, and the
+// multipliers' step.
 #[derive(Drop)]
 struct Equations {
     schur: Matrix,
@@ -54,11 +57,15 @@ struct Equations {
 impl Equations {
     // Those of so many rows.
     fn of(alloc: Global, rows: usize) -> Result<Equations, AllocError> {
+        let schur = zeros(alloc, rows)?;
+        let line = vec![in alloc; 0.0; rows]?;
+        let rests = vec![in alloc; 0.0; rows]?;
+        let multipliers = vec![in alloc; 0.0; rows]?;
         Ok(Equations {
-            schur: zeros(alloc, rows)?,
-            line: vec![in alloc; 0.0; rows]?,
-            rests: vec![in alloc; 0.0; rows]?,
-            multipliers: vec![in alloc; 0.0; rows]?,
+            schur,
+            line,
+            rests,
+            multipliers,
         })
     }
 }
@@ -78,7 +85,8 @@ impl Residuals {
     }
 }
 
-// The part of the present centre that is aimed at, by what a step without centre leaves (Mehrotra 1992).
+// The part of the present centre that is aimed at, by what a step without centre leaves (Mehrotra
+// 1992).
 fn part_aimed_at(left: f64) -> f64 {
     let part = left * left * left;
     if part > MOST_PART {
@@ -91,17 +99,26 @@ fn part_aimed_at(left: f64) -> f64 {
 }
 
 impl SemidefiniteProgram {
-    // Finds the direction of a turn in two steps: the first tells how much of the centre is kept, and the corrector.
+    // Finds the direction of a turn in two steps: the first tells how much of the centre is kept,
+    // and the corrector.
     fn find_corrected(&mut self, equations: &mut Equations, centre: f64) {
         self.begin_direction();
-        let factor = &equations.schur;
-        let rests = &equations.rests;
-        self.find_direction(0.0, factor, rests, &mut equations.multipliers);
+        self.find_direction(
+            0.0,
+            &equations.schur,
+            &equations.rests,
+            &mut equations.multipliers,
+        );
         let reach = self.reach(1.0);
         let left = self.gap_after(reach) / self.degree() / centre;
         self.find_correctors();
         let aim = part_aimed_at(left) * centre;
-        self.find_direction(aim, factor, rests, &mut equations.multipliers);
+        self.find_direction(
+            aim,
+            &equations.schur,
+            &equations.rests,
+            &mut equations.multipliers,
+        );
     }
 
     // Makes one turn; what is known after it, if that ends the run.
@@ -143,8 +160,8 @@ impl SemidefiniteProgram {
         Outcome::Unknown
     }
 
-    /// Goes on from the present values for so many turns at most, until the objective is below the bound, while the rows
-    /// are met but for a rest.
+    /// Goes on from the present values for so many turns at most, until the objective is below
+    /// the bound, while the rows are met but for a rest.
     pub fn run(&mut self, alloc: Global, turns: usize, below: f64) -> Result<Outcome, AllocError> {
         for block in self.blocks.iter_mut() {
             block.sort();

@@ -1,14 +1,16 @@
-// The Schur complement: the symmetric matrix of the equations for the step of the rows' multipliers. Its entry of the
-// rows k and l is, summed over the blocks, the product of A_k with X A_l W, for the rows' coefficients A, the matrix X and
-// the inverse W of its dual (Fujisawa, Kojima and Nakata 1997 weigh the ways to compute it; this is the second one).
-use crate::block::{Block, Entry};
+// The Schur complement: the symmetric matrix of the equations for the step of the rows'
+// multipliers. Its entry of the rows k and l is, summed over the blocks, the product of A_k with
+// X A_l W, for the rows' coefficients A, the matrix X and the inverse W of its dual (Fujisawa,
+// Kojima and Nakata 1997 weigh the ways to compute it; this is the second one).
+use crate::block::{Block, Term, part};
 use crate::factor::{factor, invert_factor, square_of_triangle};
 use crate::lists::{add, add_two_multiples, at, greater};
 use crate::matrix::{add_entry, clear_all, copy_all, entry};
 use crate::program::SemidefiniteProgram;
 use std::alloc::Global;
 
-/// What a free number counts for in the complement: it is held to its present value by the inverse of this.
+/// What a free number counts for in the complement: it is held to its present value by the
+/// inverse of this.
 pub const FREE_WEIGHT: f64 = 1e4;
 
 /// What is added to the diagonal, as a part of its greatest entry and at least.
@@ -16,25 +18,21 @@ const SHIFT_PART: f64 = 1e-14;
 
 const LEAST_SHIFT: f64 = 1e-15;
 
-// Adds to a matrix X A W for a coefficient in A.
+// Adds to a matrix X A W for a term in A.
 fn add_weighed(
     into: &mut [Vec<f64, Global>],
-    coefficient: Entry,
+    term: Term,
     primal: &[Vec<f64, Global>],
     inverse: &[Vec<f64, Global>],
 ) {
-    let first = coefficient.first;
-    let second = coefficient.second;
-    if first >= primal.len()
-        || second >= primal.len()
-        || first >= inverse.len()
-        || second >= inverse.len()
-    {
+    let first = term.first;
+    let second = term.second;
+    if first >= primal.len() || second >= primal.len() || primal.len() > inverse.len() {
         return;
     }
     for r in 0..into.len() {
-        let by = coefficient.half * at(&primal[second], r);
-        let by_last = coefficient.half * at(&primal[first], r);
+        let by = term.half * at(&primal[second], r);
+        let by_last = term.half * at(&primal[first], r);
         add_two_multiples(
             &mut into[r],
             0,
@@ -46,38 +44,58 @@ fn add_weighed(
     }
 }
 
-// Whether the coefficient in this place is the first one of its row.
-fn is_first(entries: &[Entry], i: usize) -> bool {
-    i == 0 || (i < entries.len() && entries[i - 1].row != entries[i].row)
+// Whether the term in this place is of another row than the one before it.
+fn is_first(terms: &[Term], i: usize) -> bool {
+    if i == 0 || i >= terms.len() {
+        return true;
+    }
+    terms[i - 1].row != terms[i].row
 }
 
-// Makes a matrix X A W for the coefficients A of the row that begins in this place.
+// Makes a matrix X A W for the terms A of the row that begins in this place.
 fn weigh(
     into: &mut [Vec<f64, Global>],
-    entries: &[Entry],
+    terms: &[Term],
     from: usize,
     primal: &[Vec<f64, Global>],
     inverse: &[Vec<f64, Global>],
 ) {
     clear_all(into);
-    for i in from..entries.len() {
-        if i > from && is_first(entries, i) {
+    for i in from..terms.len() {
+        if i > from && is_first(terms, i) {
             return;
         }
-        add_weighed(into, entries[i], primal, inverse);
+        add_weighed(into, terms[i], primal, inverse);
     }
 }
 
-// Adds to a row of the complement the products of a matrix with the coefficients from this place on.
-fn add_products(row: &mut [f64], entries: &[Entry], from: usize, weighed: &[Vec<f64, Global>]) {
-    for i in from..entries.len() {
-        add(row, entries[i].row, entries[i].of(weighed));
+// Adds to a row of the complement the products of a matrix with the terms from this place on.
+fn add_row(row: &mut [f64], terms: &[Term], from: usize, weighed: &[Vec<f64, Global>]) {
+    for i in from..terms.len() {
+        add(row, terms[i].row, part(terms[i], weighed));
+    }
+}
+
+// Adds a block's part of the complement's upper half, over a matrix for what is weighed.
+fn add_rows(
+    schur: &mut [Vec<f64, Global>],
+    terms: &[Term],
+    primal: &[Vec<f64, Global>],
+    inverse: &[Vec<f64, Global>],
+    weighed: &mut [Vec<f64, Global>],
+) {
+    for i in 0..terms.len() {
+        let row = terms[i].row;
+        if is_first(terms, i) && row < schur.len() {
+            weigh(weighed, terms, i, primal, inverse);
+            add_row(&mut schur[row], terms, i, weighed);
+        }
     }
 }
 
 impl Block {
-    /// Finds the inverse of its dual matrix; whether that is positive definite.
-    pub fn invert_dual(&mut self) -> bool {
+    // Finds the inverse of Z; whether that is positive definite.
+    fn invert_dual(&mut self) -> bool {
         let room = &mut self.room;
         copy_all(&mut room.product, &self.point.dual);
         if !factor(&mut room.product, &mut room.line) {
@@ -90,15 +108,15 @@ impl Block {
 
     // Adds its part of the complement's upper half.
     fn add_schur(&mut self, schur: &mut [Vec<f64, Global>]) {
-        for i in 0..self.entries.len() {
-            let row = self.entries[i].row;
-            if is_first(&self.entries, i) && row < schur.len() {
-                let room = &mut self.room;
-                let primal = &self.point.primal;
-                weigh(&mut room.product, &self.entries, i, primal, &room.inverse);
-                add_products(&mut schur[row], &self.entries, i, &room.product);
-            }
-        }
+        let room = &mut self.room;
+        let point = &self.point;
+        add_rows(
+            schur,
+            &self.terms,
+            &point.primal,
+            &room.inverse,
+            &mut room.product,
+        );
     }
 }
 

@@ -18,7 +18,8 @@ pub(crate) struct Reach {
     pub dual: f64,
 }
 
-// Whether a matrix is positive definite after so many times its step, over a matrix and a line for trials.
+// Whether a matrix is positive definite after so many times its step, over a matrix and a line
+// for trials.
 fn is_inside(
     matrix: &[Vec<f64, Global>],
     step: &[Vec<f64, Global>],
@@ -31,8 +32,8 @@ fn is_inside(
     factor(trial, line)
 }
 
-// The part of a step, up to the most, that a matrix can go, so that it stays inside even where it goes further by the
-// inverse of the damping.
+// The part of a step, up to the most, that a matrix can go, so that it stays inside even where it
+// goes further by the inverse of the damping.
 fn reach_of_matrix(
     matrix: &[Vec<f64, Global>],
     step: &[Vec<f64, Global>],
@@ -74,21 +75,25 @@ impl Block {
     // How far the block can go, up to this.
     fn reach(&mut self, most: Reach, damping: f64) -> Reach {
         let room = &mut self.room;
-        let trial = &mut room.product;
-        let line = &mut room.line;
         let point = &self.point;
         let step = &self.step;
-        Reach {
-            primal: reach_of_matrix(
-                &point.primal,
-                &step.primal,
-                most.primal,
-                damping,
-                trial,
-                line,
-            ),
-            dual: reach_of_matrix(&point.dual, &step.dual, most.dual, damping, trial, line),
-        }
+        let primal = reach_of_matrix(
+            &point.primal,
+            &step.primal,
+            most.primal,
+            damping,
+            &mut room.product,
+            &mut room.line,
+        );
+        let dual = reach_of_matrix(
+            &point.dual,
+            &step.dual,
+            most.dual,
+            damping,
+            &mut room.product,
+            &mut room.line,
+        );
+        Reach { primal, dual }
     }
 
     // The product of X and Z after the step.
