@@ -122,7 +122,10 @@ fn goes_on(alloc: Global, programme: &mut SemidefiniteProgram) -> Result<bool, A
 fn runs_go_on(rt: HostRuntime) -> Result<(), Fail> {
     match programme(rt.alloc(), &ROWS[6])? {
         None => assert!(rt; false),
-        Some(mut programme) => assert!(rt; goes_on(rt.alloc(), &mut programme)?),
+        Some(mut programme) => {
+            let is_right = goes_on(rt.alloc(), &mut programme)?;
+            assert!(rt; is_right);
+        }
     }
     Ok(())
 }

@@ -67,40 +67,44 @@ pub fn add_products(terms: &[Term], matrix: &[Vec<f64, Global>], by: f64, rows: 
     }
 }
 
-// Two matrices of this size with this number on their diagonals.
-fn pair(alloc: Global, size: usize, number: f64) -> Result<Pair, AllocError> {
-    let primal = diagonal(alloc, size, number)?;
-    let dual = diagonal(alloc, size, number)?;
-    Ok(Pair { primal, dual })
+impl Pair {
+    // Two matrices of this size with this number on their diagonals.
+    fn of(alloc: Global, size: usize, number: f64) -> Result<Pair, AllocError> {
+        let primal = diagonal(alloc, size, number)?;
+        let dual = diagonal(alloc, size, number)?;
+        Ok(Pair { primal, dual })
+    }
 }
 
-// Room for a block of this size.
-fn room(alloc: Global, size: usize) -> Result<Room, AllocError> {
-    let inverse = zeros(alloc, size)?;
-    let residual = zeros(alloc, size)?;
-    let base = zeros(alloc, size)?;
-    let corrector = zeros(alloc, size)?;
-    let product = zeros(alloc, size)?;
-    let half_product = zeros(alloc, size)?;
-    let line = vec![in alloc; 0.0; size]?;
-    Ok(Room {
-        inverse,
-        residual,
-        base,
-        corrector,
-        product,
-        half_product,
-        line,
-    })
+impl Room {
+    // Room for a block of this size.
+    fn of(alloc: Global, size: usize) -> Result<Room, AllocError> {
+        let inverse = zeros(alloc, size)?;
+        let residual = zeros(alloc, size)?;
+        let base = zeros(alloc, size)?;
+        let corrector = zeros(alloc, size)?;
+        let product = zeros(alloc, size)?;
+        let half_product = zeros(alloc, size)?;
+        let line = vec![in alloc; 0.0; size]?;
+        Ok(Room {
+            inverse,
+            residual,
+            base,
+            corrector,
+            product,
+            half_product,
+            line,
+        })
+    }
 }
 
 impl Block {
     /// The block of this size without terms and costs, at its first point.
     pub fn of(alloc: Global, size: usize) -> Result<Block, AllocError> {
-        let point = pair(alloc, size, 1.0)?;
-        let step = pair(alloc, size, 0.0)?;
+        let point = Pair::of(alloc, size, 1.0)?;
+        let step = Pair::of(alloc, size, 0.0)?;
         let costs = zeros(alloc, size)?;
-        let room = room(alloc, size)?;
+        let room = Room::of(alloc, size)?;
         Ok(Block {
             terms: Vec::new(alloc),
             costs,
