@@ -1,0 +1,22 @@
+//! Sums of squares, computed: polynomials about the centre of a space with intervals for coefficients.
+//!
+//! [`Polynomial`] has sums, products and opposites, and [`polynomial_range`] its range over a space. [`expand_nodes`] gives
+//! the polynomials of a graph's marked nodes, and [`block_polynomial`] that of a block of squares. Steps are taken from a
+//! [`Budget`], and where too few are left there is no polynomial.
+#![tactic(auto)]
+
+mod block;
+mod budget;
+mod expand;
+mod monomial;
+mod node;
+mod number;
+mod polynomial;
+mod range;
+
+pub use block::{Block, Factor, block_polynomial};
+pub use budget::Budget;
+pub use expand::expand_nodes;
+pub use node::constant;
+pub use polynomial::Polynomial;
+pub use range::polynomial_range;
