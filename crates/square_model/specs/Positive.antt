@@ -82,6 +82,27 @@ abbrev pub are_short_below : Space → List Node → List Bool → ℕ → Bool
 are_short_below centre nodes marks zero = true
 are_short_below centre nodes marks (suc k) = are_short_below centre nodes marks k && cond (get_or marks k false) (is_short (node_polynomial centre nodes k)) true
 
+-- ---- how long the line is
+
+abbrev pub sizes_of : {A : Type 0} → List (List A) → ℕ
+sizes_of [] = 0
+sizes_of (xs ∷ rest) = length xs + sizes_of rest
+
+-- the factor's numbers, and each list with its length
+abbrev pub block_numbers : Block → ℕ
+block_numbers b = 3 + ((length b.monomials + sizes_of b.monomials) + sizes_of b.rows)
+
+abbrev pub blocks_numbers : List Block → ℕ
+blocks_numbers [] = 0
+blocks_numbers (b ∷ bs) = block_numbers b + blocks_numbers bs
+
+-- how many numbers the line has, at most
+abbrev pub all_numbers : Multipliers → List Block → ℕ
+all_numbers ms bs = suc (length ms + length ms) + blocks_numbers bs
+
+abbrev pub most_numbers : ℕ
+most_numbers = 8000
+
 -- ---- the condition
 
 -- blocks of polynomials with numbers for coefficients, with no product of more than 32 axes
@@ -99,7 +120,7 @@ most_steps = 1048576
 
 -- within the limits
 abbrev pub is_small : Problem → Space → Space → Multipliers → List Block → Bool
-is_small p space centre ms bs = are_short_below centre p.nodes (expanded_nodes p ms) (length p.nodes) && nat_le (all_steps p space centre ms bs) most_steps
+is_small p space centre ms bs = nat_le (all_numbers ms bs) most_numbers && are_short_below centre p.nodes (expanded_nodes p ms) (length p.nodes) && nat_le (all_steps p space centre ms bs) most_steps
 
 -- expanded at the centre, where these are the ranges of the atoms' values
 abbrev pub is_positive : Problem → (ℕ → Interval) → Space → Space → Multipliers → List Block → Bool
