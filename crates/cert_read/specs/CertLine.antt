@@ -156,7 +156,7 @@ take_dyadic (w ∷ ws) = taken_if (dyadic_of w) ws
 -- so many
 abbrev pub take_many : {A : Type 0} → (List (List ℕ) → Taken A) → ℕ → List (List ℕ) → Taken (List A)
 take_many take zero ws = taken [] ws
-take_many take (suc n) ws = and_take (take ws) (λ a vs. and_take (take_many take n vs) (λ as us. taken (a ∷ as) us))
+take_many take (suc n) ws = and_take (take ws) (λ a vs. and_take (take_many take n vs) (λ xs us. taken (a ∷ xs) us))
 
 abbrev pub take_pair : List (List ℕ) → Taken (ℕ × Dyadic)
 take_pair ws = and_take (take_count ws) (λ j vs. and_take (take_dyadic vs) (λ l us. taken (j, l) us))
@@ -171,8 +171,8 @@ take_rows zero ws = taken [] ws
 take_rows (suc n) ws = and_take (take_many take_dyadic (suc n) ws) (λ r vs. and_take (take_rows n vs) (λ rs us. taken (r ∷ rs) us))
 
 abbrev pub factor_by : ℕ → List (List ℕ) → Taken Factor
-factor_by 0 ws = taken no_factor ws
-factor_by 1 ws = and_take (take_count ws) (λ i vs. taken (bound_of i) vs)
+factor_by zero ws = taken no_factor ws
+factor_by (suc zero) ws = and_take (take_count ws) (λ i vs. taken (bound_of i) vs)
 factor_by _ ws = ill_formed
 
 -- 0, or 1 and an axis
