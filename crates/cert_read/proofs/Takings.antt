@@ -1,5 +1,5 @@
 -- What is read from the left: so far in front of what is still to be read, and how many words are left.
-use Rattle.std.proofs.Common.{◌≡◌, ◌≢◌, ◌<◌, ◌≤◌, ℕ, zero, suc, ◌+◌, ◌-◌, List, [], ◌∷◌, ◌++◌, append_assoc, true, false, true≢false, Bor, option_copied, Option, Some, None, length, refl, ap, sym, ◌∙◌, subst, arith}
+use Rattle.std.proofs.Common.{◌≡◌, ◌<◌, ◌≤◌, ℕ, zero, suc, ◌+◌, ◌-◌, List, [], ◌∷◌, ◌++◌, append_assoc, true, false, true≢false, Bor, option_copied, Option, Some, None, length, refl, ap, sym, ◌∙◌, subst, arith}
 use Rattle.std.specs.Option.{is_some}
 use Rattle.std.specs.Prelude.{Result, Ok, Err, IsErr, IsErrAnd}
 use Rattle.std.proofs.lemmas.List.{append-nil}
@@ -110,13 +110,6 @@ rows_on m i gs ws a vs l e =
     ∙ onto_first gs (take_many take_dyadic (suc (m - (i + 1))) ws) (take_rows (m - (i + 1))) a vs
     (ap (λ (n : ℕ). take_many take_dyadic n ws) (sym (one_less m i l)) ∙ e)
 
-pub rows_fault : (f : LineFault) (m i : ℕ) (gs : List (List Dyadic)) (ws : List (List ℕ))
-    → i < m → IsTakenFault f (take_many take_dyadic (m - i) ws) → IsTakenFault f (onto gs (take_rows (m - i) ws))
-rows_fault f m i gs ws l h =
-    same_fault f _ _ (ap (λ (n : ℕ). onto gs (take_rows n ws)) (one_less m i l))
-    (onto_fault f gs (take_rows (suc (m - (i + 1))) ws) (and_fault f (take_many take_dyadic (suc (m - (i + 1))) ws) _
-      (same_fault f _ _ (ap (λ (n : ℕ). take_many take_dyadic n ws) (sym (one_less m i l))) h)))
-
 pub rows_end : (m i : ℕ) (gs : List (List Dyadic)) (ws : List (List ℕ)) → m ≤ i → onto gs (take_rows (m - i) ws) ≡ taken gs ws
 rows_end m i gs ws l = ap (λ (n : ℕ). onto gs (take_rows n ws)) (none_less m i l) ∙ ap (λ (bs : List (List Dyadic)). taken bs ws) (append-nil gs)
 
@@ -127,11 +120,6 @@ pair_on ws vs us j d e f =
     and_on (take_count ws) (λ i xs. and_take (take_dyadic xs) (λ l ys. taken (i, l) ys)) j vs e
     ∙ and_on (take_dyadic vs) (λ l ys. taken (j, l) ys) d us f
 
-pub pair_fault : (f : LineFault) (ws vs : List (List ℕ)) (j : ℕ) → take_count ws ≡ taken j vs → IsTakenFault f (take_dyadic vs) → IsTakenFault f (take_pair ws)
-pair_fault f ws vs j e h =
-    same_fault f _ _ (and_on (take_count ws) (λ i xs. and_take (take_dyadic xs) (λ l ys. taken (i, l) ys)) j vs e)
-    (and_fault f (take_dyadic vs) (λ l ys. taken (j, l) ys) h)
-
 pub monomial_on : (ws vs : List (List ℕ)) (n : ℕ) → take_count ws ≡ taken n vs → take_monomial ws ≡ take_many take_count n vs
 monomial_on ws vs n e = and_on (take_count ws) (λ k xs. take_many take_count k xs) n vs e
 
@@ -141,19 +129,6 @@ factor_on ws vs k e = and_on (take_count ws) (λ n xs. factor_by n xs) k vs e
 pub bound_on : (ws vs us : List (List ℕ)) (k i : ℕ) → take_count ws ≡ taken k vs → k ≡ 1 → take_count vs ≡ taken i us → take_factor ws ≡ taken (bound_of i) us
 bound_on ws vs us k i e one f =
     factor_on ws vs k e ∙ ap (λ (n : ℕ). factor_by n vs) one ∙ and_on (take_count vs) (λ j xs. taken (bound_of j) xs) i us f
-
-pub bound_fault : (f : LineFault) (ws vs : List (List ℕ)) (k : ℕ) → take_count ws ≡ taken k vs → k ≡ 1 → IsTakenFault f (take_count vs) → IsTakenFault f (take_factor ws)
-bound_fault f ws vs k e one h =
-    same_fault f _ _ (factor_on ws vs k e ∙ ap (λ (n : ℕ). factor_by n vs) one) (and_fault f (take_count vs) (λ j xs. taken (bound_of j) xs) h)
-
-other_factor : (k : ℕ) (vs : List (List ℕ)) → k ≢ 0 → k ≢ 1 → factor_by k vs ≡ ill_formed
-other_factor zero vs h g = absurd (h refl)
-other_factor (suc zero) vs h g = absurd (g refl)
-other_factor (suc (suc k)) vs h g = refl
-
-pub ill_factor : (ws vs : List (List ℕ)) (k : ℕ) → take_count ws ≡ taken k vs → k ≢ 0 → k ≢ 1 → take_factor ws ≡ ill_formed
-ill_factor ws vs k e h g = factor_on ws vs k e ∙ other_factor k vs h g
-
 
 abbrev take-rest : Factor → ℕ → List (List ℕ) → List (List ℕ) → Taken Block
 take-rest f n ms us = and_take (take_rows n us) (λ rs ts. taken (record { factor = f; monomials = ms; rows = rs }) ts)
@@ -169,23 +144,6 @@ count-then f vs us n e = and_on (take_count vs) (λ k xs. take-counted f k xs) n
 
 monomials-then : (f : Factor) (us ts : List (List ℕ)) (n : ℕ) (ms : List (List ℕ)) → take_many take_monomial n us ≡ taken ms ts → take-counted f n us ≡ take-rest f n ms ts
 monomials-then f us ts n ms e = and_on (take_many take_monomial n us) (λ ns xs. take-rest f n ns xs) ms ts e
-
-pub block_factor_fault : (e : LineFault) (ws : List (List ℕ)) → IsTakenFault e (take_factor ws) → IsTakenFault e (take_block ws)
-block_factor_fault e ws h = and_fault e (take_factor ws) (λ g xs. take_block_of g xs) h
-
-pub block_count_fault : (e : LineFault) (ws vs : List (List ℕ)) (f : Factor) → take_factor ws ≡ taken f vs → IsTakenFault e (take_count vs) → IsTakenFault e (take_block ws)
-block_count_fault e ws vs f a h = same_fault e _ _ (factor-then ws vs f a) (and_fault e (take_count vs) (λ k xs. take-counted f k xs) h)
-
-pub block_monomials_fault : (e : LineFault) (ws vs us : List (List ℕ)) (f : Factor) (n : ℕ) → take_factor ws ≡ taken f vs → take_count vs ≡ taken n us
-    → IsTakenFault e (take_many take_monomial n us) → IsTakenFault e (take_block ws)
-block_monomials_fault e ws vs us f n a b h =
-    same_fault e _ _ (factor-then ws vs f a ∙ count-then f vs us n b) (and_fault e (take_many take_monomial n us) (λ ns xs. take-rest f n ns xs) h)
-
-pub block_rows_fault : (e : LineFault) (ws vs us ts : List (List ℕ)) (f : Factor) (n : ℕ) (ms : List (List ℕ)) → take_factor ws ≡ taken f vs → take_count vs ≡ taken n us
-    → take_many take_monomial n us ≡ taken ms ts → IsTakenFault e (take_rows n ts) → IsTakenFault e (take_block ws)
-block_rows_fault e ws vs us ts f n ms a b c h =
-    same_fault e _ _ (factor-then ws vs f a ∙ count-then f vs us n b ∙ monomials-then f us ts n ms c)
-    (and_fault e (take_rows n ts) (λ rs xs. taken (record { factor = f; monomials = ms; rows = rs }) xs) h)
 
 pub block_on : (ws vs us ts xs : List (List ℕ)) (f : Factor) (n : ℕ) (ms : List (List ℕ)) (rs : List (List Dyadic)) → take_factor ws ≡ taken f vs → take_count vs ≡ taken n us
     → take_many take_monomial n us ≡ taken ms ts → take_rows n ts ≡ taken rs xs → take_block ws ≡ taken (record { factor = f; monomials = ms; rows = rs }) xs
@@ -250,7 +208,7 @@ block_of_leaves : (n : ℕ) (f : Factor) (ws : List (List ℕ)) → length ws �
 block_of_leaves n f ws h =
     and_leaves n (take_count ws) (λ k xs. take-counted f k xs) (count_leaves n ws h)
     (λ k vs i. and_leaves n (take_many take_monomial k vs) (λ ms us. take-rest f k ms us) (many_leaves n take_monomial (monomial_leaves n) k vs i)
-      (λ ms us j. and_leaves n (take_rows k us) (λ rs ts. taken (record { factor = f; monomials = ms; rows = rs }) ts) (rows_leave n k us j) (λ rs ts l. l)))
+    (λ ms us j. and_leaves n (take_rows k us) (λ rs ts. taken (record { factor = f; monomials = ms; rows = rs }) ts) (rows_leave n k us j) (λ rs ts l. l)))
 
 first_count_leaves : (w : List ℕ) (ws : List (List ℕ)) → LeavesAtMost (length ws) (take_count (w ∷ ws))
 first_count_leaves w ws = if_leaves (length ws) (count_of w) ws (omega arith)

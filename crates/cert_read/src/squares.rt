@@ -6,9 +6,8 @@ ghost use Rattle.cert_read.specs.CertLine.{take_block, take_blocks, take_count, 
 ghost use Rattle.cert_read.specs.Taking.{AreSquaresIn, IsNextWord, IsTaken, blocks_in, itself, lists_in, pair_in, pairs_in, rows_in, words_ahead};
 ghost use Rattle.cert_read.specs.Words.{words_behind};
 
-use crate::LineFault;
-use crate::number;
 use crate::place::cut;
+use crate::{LineFault, number};
 use cover_line::{Block, Factor};
 use dyadic::Dy;
 use std::alloc::Global;

@@ -1,4 +1,4 @@
-use Rattle.std.proofs.Common.{◌≡◌, ◌≤◌, ◌<◌, ◌+◌, ◌-◌, ℕ, List, [], ◌∷◌, ◌++◌, length, ap, sym, ◌∙◌, arith}
+use Rattle.std.proofs.Common.{◌≡◌, ◌<◌, ◌+◌, ◌-◌, ℕ, List, [], ◌∷◌, length, ap, sym, ◌∙◌, arith}
 use Rattle.std.proofs.lemmas.List.{map-append, length-append}
 use Rattle.cover_line.specs.Line.{Block}
 use Rattle.cover_line.specs.Views.{block_of, blocks_of}
@@ -52,7 +52,7 @@ returns-in_err-block c =
     let some : 0 < length words = words_left c.loop-alloc.self.rest (sym c.is_some.ensures ∙ c.loop-alloc-test.true) in
     fault_told blocks_in all c.from_residual.result fault (words_ahead c.block.new.self) c.from_residual.ensures
     (same_fault fault all (onto (blocks_of blocks) (take_blocks (most - length blocks) words)) c.loop-alloc.invariant.read
-      (blocks_fault fault most (length blocks) (blocks_of blocks) words some (omega (arith, some, c.loop-alloc.invariant.fits)) c.in_err-block.ensures))
+    (blocks_fault fault most (length blocks) (blocks_of blocks) words some (omega (arith, some, c.loop-alloc.invariant.fits)) c.in_err-block.ensures))
 
 pub returns : goal.returns
 returns c =

@@ -1,5 +1,5 @@
-use Rattle.std.proofs.Common.{◌≡◌, ◌≤◌, ◌<◌, ◌+◌, ◌-◌, ℕ, List, [], ◌∷◌, ◌++◌, map, ap, sym, ◌∙◌, arith}
-use Rattle.cert_read.specs.CertLine.{take_count, take_many, taken}
+use Rattle.std.proofs.Common.{◌+◌, ◌-◌, ℕ, List, ap, sym, ◌∙◌, arith}
+use Rattle.cert_read.specs.CertLine.{take_count, take_many}
 use Rattle.cert_read.specs.Taking.{words_ahead}
 use Rattle.cert_read.proofs.Takings.{onto, nothing_yet, many_on, many_end}
 use Rattle.cert_read.proofs.squares.Ahead.counts.Goals as goal

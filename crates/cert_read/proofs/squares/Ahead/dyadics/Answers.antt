@@ -1,8 +1,8 @@
-use Rattle.std.proofs.Common.{◌≡◌, ◌≤◌, ◌<◌, ◌+◌, ◌-◌, ℕ, List, [], ◌∷◌, ◌++◌, map, ap, sym, ◌∙◌, arith}
+use Rattle.std.proofs.Common.{◌+◌, ◌-◌, List, [], ◌∷◌, map, ap, sym, ◌∙◌, arith}
 use Rattle.std.proofs.lemmas.List.{map-append}
 use Rattle.dyadic.specs.Rounding.{Dyadic}
 use Rattle.dyadic.specs.Views.{dyadic_of}
-use Rattle.cert_read.specs.CertLine.{take_dyadic, take_many, taken}
+use Rattle.cert_read.specs.CertLine.{take_dyadic, take_many}
 use Rattle.cert_read.specs.Taking.{words_ahead}
 use Rattle.cert_read.proofs.Takings.{onto, nothing_yet, many_on, many_end}
 use Rattle.cert_read.proofs.squares.Ahead.dyadics.Goals as goal

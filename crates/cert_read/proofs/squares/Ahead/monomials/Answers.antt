@@ -1,7 +1,7 @@
-use Rattle.std.proofs.Common.{◌≡◌, ◌≤◌, ◌<◌, ◌+◌, ◌-◌, ℕ, List, [], ◌∷◌, ◌++◌, map, ap, sym, ◌∙◌, arith}
+use Rattle.std.proofs.Common.{◌+◌, ◌-◌, ℕ, List, [], ◌∷◌, map, ap, sym, ◌∙◌, arith}
 use Rattle.std.proofs.lemmas.List.{map-append}
 use Rattle.cover_line.specs.Views.{axes_of}
-use Rattle.cert_read.specs.CertLine.{take_monomial, take_many, taken}
+use Rattle.cert_read.specs.CertLine.{take_monomial, take_many}
 use Rattle.cert_read.specs.Taking.{words_ahead}
 use Rattle.cert_read.proofs.Takings.{onto, nothing_yet, many_on, many_end}
 use Rattle.cert_read.proofs.squares.Ahead.monomials.Goals as goal

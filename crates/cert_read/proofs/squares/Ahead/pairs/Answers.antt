@@ -1,8 +1,8 @@
-use Rattle.std.proofs.Common.{◌≡◌, ◌≤◌, ◌<◌, ◌+◌, ◌-◌, ℕ, List, [], ◌∷◌, ◌++◌, map, ap, sym, ◌∙◌, arith}
+use Rattle.std.proofs.Common.{◌+◌, ◌-◌, ap, sym, ◌∙◌, arith}
 use Rattle.cover_line.specs.Line.{Multipliers}
 use Rattle.cover_line.specs.Views.{multipliers_of}
 use Rattle.cert_read.proofs.Paired.{one_more_pair}
-use Rattle.cert_read.specs.CertLine.{take_pair, take_many, taken}
+use Rattle.cert_read.specs.CertLine.{take_pair, take_many}
 use Rattle.cert_read.specs.Taking.{words_ahead, pair_in, pairs_in}
 use Rattle.cert_read.proofs.Takings.{onto, same_fault, fault_told, many_fault, nothing_yet, many_on, many_end}
 use Rattle.cert_read.proofs.squares.Ahead.pairs.Goals as goal
@@ -29,7 +29,7 @@ returns-in_err-pair c =
     let all = take_many take_pair many (words_ahead c.args.self.now) in
     fault_told pairs_in all c.from_residual.result fault (words_ahead c.pair.new.self) c.from_residual.ensures
     (same_fault fault all (onto have (take_many take_pair (many - c.loop.counter) words)) c.loop.invariant
-      (many_fault fault take_pair many c.loop.counter have words (omega (arith, c.loop-test.true)) c.in_err-pair.ensures))
+    (many_fault fault take_pair many c.loop.counter have words (omega (arith, c.loop-test.true)) c.in_err-pair.ensures))
 
 pub returns : goal.returns
 returns c = c.loop.invariant ∙ many_end take_pair c.args.many c.loop.counter (multipliers_of c.loop.pairs.items) (words_ahead c.loop.self) (omega (arith, c.loop-test.false))
