@@ -4,11 +4,10 @@ use Rattle.std.specs.Option.{is_some}
 use Rattle.std.specs.Prelude.{Result, Ok, Err, IsErr, IsErrAnd}
 use Rattle.std.proofs.lemmas.List.{append-nil}
 use Rattle.dyadic.specs.Rounding.{Dyadic}
-use Rattle.cover_line.specs.Line.{Multipliers, Factor, no_factor, bound_of, Block}
+use Rattle.cover_line.specs.Line.{Multipliers, Factor, bound_of, Block}
 use Rattle.cert_read.specs.declared.fault.LineFault.{LineFault}
 use Rattle.cert_read.specs.declared.fault.LineFault.TheVariants.{BadLine, BadNumber, LineTooLong, Memory}
 use Rattle.cert_read.specs.CertLine.{CertLine, line, Taken, taken, ill_formed, no_number, and_take, taken_if, count_of, dyadic_of, take_count, take_dyadic, take_many, take_pair, take_monomial, take_rows, factor_by, take_factor, take_block_of, take_block, take_blocks, take_squares, line_taken, squared}
-use Rattle.cert_read.specs.LineAnswers.{IsFault}
 use Rattle.cert_read.specs.Taking.{IsTaken, IsTakenFault}
 use Rattle.cert_read.specs.Words.{words_behind}
 use Rattle.cert_read.proofs.Parts.{split_some}
@@ -265,30 +264,11 @@ take-blocks-all ms us = and_take (take_blocks (length us) us) (λ bs ts. taken (
 abbrev take-pairs : ℕ → List (List ℕ) → Taken (Multipliers × List Block)
 take-pairs k vs = and_take (take_many take_pair k vs) (λ ms us. take-blocks-all ms us)
 
-line_fault : (e : LineFault) (f : Multipliers → List Block → CertLine) (t : Taken (Multipliers × List Block)) → IsTakenFault e t → IsFault e (line_taken f t)
-line_fault BadLine f t h = ap (line_taken f) h
-line_fault BadNumber f t h = ap (line_taken f) h
-line_fault LineTooLong f t h = absurd h
-line_fault Memory f t h = tt
-
 many-then : (ws vs : List (List ℕ)) (k : ℕ) → take_count ws ≡ taken k vs → take_squares ws ≡ take-pairs k vs
 many-then ws vs k a = and_on (take_count ws) (λ n xs. take-pairs n xs) k vs a
 
 pairs-then : (vs us : List (List ℕ)) (k : ℕ) (ms : Multipliers) → take_many take_pair k vs ≡ taken ms us → take-pairs k vs ≡ take-blocks-all ms us
 pairs-then vs us k ms b = and_on (take_many take_pair k vs) (λ ns xs. take-blocks-all ns xs) ms us b
-
-pub squares_count_fault : (e : LineFault) (ws : List (List ℕ)) → IsTakenFault e (take_count ws) → (f : Multipliers → List Block → CertLine) → IsFault e (squared f ws)
-squares_count_fault e ws h f = line_fault e f (take_squares ws) (and_fault e (take_count ws) (λ n xs. take-pairs n xs) h)
-
-pub squares_pairs_fault : (e : LineFault) (ws vs : List (List ℕ)) (k : ℕ) → take_count ws ≡ taken k vs → IsTakenFault e (take_many take_pair k vs)
-    → (f : Multipliers → List Block → CertLine) → IsFault e (squared f ws)
-squares_pairs_fault e ws vs k a h f =
-    line_fault e f (take_squares ws) (same_fault e _ _ (many-then ws vs k a) (and_fault e (take_many take_pair k vs) (λ ns xs. take-blocks-all ns xs) h))
-
-pub squares_blocks_fault : (e : LineFault) (ws vs us : List (List ℕ)) (k : ℕ) (ms : Multipliers) → take_count ws ≡ taken k vs → take_many take_pair k vs ≡ taken ms us
-    → IsTakenFault e (take_blocks (length us) us) → (f : Multipliers → List Block → CertLine) → IsFault e (squared f ws)
-squares_blocks_fault e ws vs us k ms a b h f =
-    line_fault e f (take_squares ws) (same_fault e _ _ (many-then ws vs k a ∙ pairs-then vs us k ms b) (and_fault e (take_blocks (length us) us) (λ bs ts. taken (ms, bs) ts) h))
 
 pub squares_on : (ws vs us ts : List (List ℕ)) (k : ℕ) (ms : Multipliers) (bs : List Block) → take_count ws ≡ taken k vs → take_many take_pair k vs ≡ taken ms us
     → take_blocks (length us) us ≡ taken bs ts → (f : Multipliers → List Block → CertLine) → squared f ws ≡ line (f ms bs)
