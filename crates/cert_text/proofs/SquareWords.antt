@@ -2,7 +2,7 @@
 use Rattle.std.proofs.Common.{◌≡◌, ℕ, suc, ◌+◌, ◌*◌, ◌<◌, ◌≤◌, List, [], ◌∷◌, ◌++◌, map, length, length-append, append_assoc, IsTrue, true≢false, nat_eq, true, inl, inr, refl, ap, sym, ◌∙◌, subst, arith}
 use Rattle.std.specs.Prelude.{decimal, Vec, Result, Ok, Err, OnOk}
 use Rattle.std.specs.Global.{Global}
-use Rattle.std.specs.List.{AllByRecursion}
+use Rattle.std.specs.List.{AllByRecursion, list_all}
 use Rattle.std.proofs.lemmas.Bool.Decides.{eqb_tells}
 use Rattle.std.proofs.lemmas.List.{append-nil, length-map}
 use Rattle.dyadic.specs.declared.dy.Dy.{Dy}
@@ -18,7 +18,7 @@ use Rattle.square_model.specs.Block.{are_rows}
 use Rattle.square_model.specs.Positive.{sizes_of, block_numbers, blocks_numbers, all_numbers, most_numbers}
 use Rattle.cert_read.specs.LineText.{pair_words, factor_words, monomial_words, row_words, block_words, operand_words, IsCount, IsSpelledNumber, IsSpelledMonomial, AreSpelledRows, IsSpelledBlock, IsSpelledPair}
 use Rattle.cert_text.specs.Lines.{HasPairs}
-use Rattle.cert_text.specs.Ruled.{after_spaces, HasRows, HasFewPairs, HasCounts, HasWords, HasOperands}
+use Rattle.cert_text.specs.Ruled.{after_spaces, has_rows, HasFewPairs, HasCounts, HasWords, HasOperands}
 use Rattle.cert_text.proofs.Numbers.{number_spelled}
 use Rattle.cert_text.proofs.Ruled.{pairs_spaced}
 use Rattle.cert_text.proofs.Words.{both_words, same_words, flat}
@@ -80,7 +80,7 @@ monomials-spelled : (ms : List (List ℕ)) → sizes_of ms ≤ 8000 → AllByRec
 monomials-spelled [] l h = tt
 monomials-spelled (m ∷ ms) l h = ((omega (arith, l), h.0), monomials-spelled ms (omega (arith, l)) h.1)
 
-block-spelled : (b : CodeBlock) → block_numbers (block_of b) ≤ 8000 → HasCounts (block_of b) → HasRows (block_of b) → IsSpelledBlock (block_of b)
+block-spelled : (b : CodeBlock) → block_numbers (block_of b) ≤ 8000 → HasCounts (block_of b) → IsTrue (has_rows (block_of b)) → IsSpelledBlock (block_of b)
 block-spelled b l h k = record {
   factor = h.factor;
   count = omega (arith, l);
@@ -88,9 +88,11 @@ block-spelled b l h k = record {
   rows = rows-spelled (block_of b).monomials b.rows.items k;
 }
 
-blocks-spelled : (bs : List CodeBlock) → blocks_numbers (blocks_of bs) ≤ 8000 → AllByRecursion HasCounts (blocks_of bs) → AllByRecursion HasRows (blocks_of bs) → AllByRecursion IsSpelledBlock (blocks_of bs)
+blocks-spelled : (bs : List CodeBlock) → blocks_numbers (blocks_of bs) ≤ 8000 → AllByRecursion HasCounts (blocks_of bs) → IsTrue (list_all has_rows (blocks_of bs)) → AllByRecursion IsSpelledBlock (blocks_of bs)
 blocks-spelled [] l h k = tt
-blocks-spelled (b ∷ bs) l h k = (block-spelled b (omega (arith, l)) h.0 k.0, blocks-spelled bs (omega (arith, l)) h.1 k.1)
+blocks-spelled (b ∷ bs) l h k =
+    let e = both_true (has_rows (block_of b)) (list_all has_rows (blocks_of bs)) k in
+    (block-spelled b (omega (arith, l)) h.0 e.0, blocks-spelled bs (omega (arith, l)) h.1 e.1)
 
 -- ---- the operands
 

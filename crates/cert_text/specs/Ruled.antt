@@ -1,6 +1,6 @@
 -- Lines of trees that are appended to a text, by their first words and their operands.
-use Rattle.std.specs.Prelude.{◌≡◌, ℕ, ◌<◌, ◌≤◌, ◌*◌, List, [], ◌∷◌, ◌++◌, length, IsTrue}
-use Rattle.std.specs.List.{AllByRecursion}
+use Rattle.std.specs.Prelude.{◌≡◌, ℕ, ◌<◌, ◌≤◌, ◌*◌, List, [], ◌∷◌, ◌++◌, length, Bool, IsTrue}
+use Rattle.std.specs.List.{AllByRecursion, list_all}
 use Rattle.dyadic.specs.Views.{dyadic_of}
 use Rattle.cover_line.specs.Line.{Block}
 use Rattle.cover_line.specs.Views.{multipliers_of, blocks_of}
@@ -27,13 +27,13 @@ after_spaces [] = []
 after_spaces (w ∷ ws) = 32 ∷ (w ++ after_spaces ws)
 
 -- a row for each monomial
-abbrev pub HasRows : Block → Type 0
-HasRows b = IsTrue (are_rows b.monomials b.rows)
+abbrev pub has_rows : Block → Bool
+has_rows b = are_rows b.monomials b.rows
 
 -- from 1 to 512 pairs, where they are pairs; at most 8,000 numbers, where they are those of squares
 abbrev pub HasFewPairs : Operands → Type 0
 HasFewPairs (of_multipliers ps) = (0 < length ps) × (length ps ≤ 512)
-HasFewPairs (of_squares ms bs) = (all_numbers ms bs ≤ most_numbers) × AllByRecursion HasRows bs
+HasFewPairs (of_squares ms bs) = (all_numbers ms bs ≤ most_numbers) × IsTrue (list_all has_rows bs)
 HasFewPairs o = Unit {0}
 
 -- its axes are plain numbers
