@@ -7,16 +7,26 @@
 
 mod block;
 mod budget;
+mod combination;
+mod conditions;
+mod count;
 mod expand;
+mod marks;
 mod monomial;
 mod node;
 mod number;
+mod pairs;
 mod polynomial;
+mod positive;
 mod range;
+mod rest;
+mod sum;
 
-pub use block::{Block, Factor, block_polynomial};
+pub use block::block_polynomial;
 pub use budget::Budget;
+pub use combination::Combination;
 pub use expand::expand_nodes;
 pub use node::constant;
 pub use polynomial::Polynomial;
+pub use positive::is_positive;
 pub use range::polynomial_range;
