@@ -1,5 +1,6 @@
 pub mod Advancing
 pub mod Copying
+pub mod Counting
 pub mod Deciding
 pub mod Factoring
 pub mod Giving

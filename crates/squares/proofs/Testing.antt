@@ -2,12 +2,14 @@
 use Rattle.std.proofs.Common.{◌≡◌, ℕ, zero, suc, ◌+◌, ◌-◌, ◌<◌, ◌≤◌, List, [], ◌∷◌, Vec, length, map, drop, get_or, Bool, true, false, not, ◌&&◌, ◌||◌, cond, nat_eq, nat_le, leb, ltb, nat_lt, IsTrue, refl, ap, ap₂, sym, ◌∙◌, arith}
 use Rattle.std.proofs.lemmas.List.{drop_all, drop_more, length-drop, length-map}
 use Rattle.std.proofs.lemmas.Bool.Decides.{nat_tests}
+use Rattle.std.specs.Cmp.Lexicographic.{slice_cmp}
+use Rattle.std.specs.Ordering.{nat_cmp, is_eq}
 use Rattle.std.specs.declared.alloc.Global.{Global}
 use Rattle.cover_line.specs.Views.{axes_of, numbers_of}
 use Rattle.dyadic.specs.Views.{dyadic_of}
 use Rattle.dyadic.specs.declared.dy.Dy.{Dy}
 use Rattle.interval_model.specs.Space.{Domain, Space, test_axis}
-use Rattle.square_model.specs.Block.{is_ascending, are_monomials, are_rows}
+use Rattle.square_model.specs.Block.{is_real, are_real_axes, is_among, is_ascending, are_monomials, are_rows}
 use Rattle.square_model.specs.Polynomial.{Monomial}
 use Rattle.squares.specs.Conditions.{is_before, is_new_monomial}
 
@@ -43,7 +45,16 @@ ascending-first axis (i ∷ m) = refl
 pub ascending_from : (m : Monomial) (i d : ℕ) → i < length m → is_ascending (drop i m) ≡ (is_before (get_or m i d) (drop (i + 1) m) && is_ascending (drop (i + 1) m))
 ascending_from m i d h = ap is_ascending (drop_more m i d h) ∙ ascending-first (get_or m i d) (drop (i + 1) m)
 
+-- ---- Real axes
+
+pub real_axes_from : (space : Space) (m : Monomial) (i d : ℕ) → i < length m → are_real_axes space (drop i m) ≡ (test_axis is_real (get_or m i d) space && are_real_axes space (drop (i + 1) m))
+real_axes_from space m i d h = ap (are_real_axes space) (drop_more m i d h)
+
 -- ---- monomials
+
+pub among_from : (m : Monomial) (ns : List (Vec ℕ Global)) (i : ℕ) (d : Vec ℕ Global) → i < length ns →
+    is_among m (map axes_of (drop i ns)) ≡ (is_eq (slice_cmp nat_cmp m (axes_of (get_or ns i d))) || is_among m (map axes_of (drop (i + 1) ns)))
+among_from m ns i d h = ap (λ (os : List (Vec ℕ Global)). is_among m (map axes_of os)) (drop_more ns i d h)
 
 pub monomials_from : (space : Space) (ms : List (Vec ℕ Global)) (i : ℕ) (d : Vec ℕ Global) → i < length ms →
     are_monomials space (map axes_of (drop i ms)) ≡ (is_new_monomial space (axes_of (get_or ms i d)) (map axes_of (drop (i + 1) ms)) && are_monomials space (map axes_of (drop (i + 1) ms)))

@@ -36,6 +36,7 @@ fn is_real_axis(space: &Space, axis: u32) -> bool
 }
 
 // Whether all axes are Real.
+#[tactic(auto, using(crate::proofs::Testing::real_axes_from))]
 fn are_real_axes(space: &Space, monomial: &[u32]) -> bool
     ensures { result ≡ are_real_axes (space_of space.now) monomial.now }
 {
@@ -77,6 +78,7 @@ fn is_monomial(space: &Space, monomial: &[u32]) -> bool
 }
 
 // Whether the monomial is one of these.
+#[tactic(auto, using(crate::proofs::Testing::among_from))]
 fn is_among(monomial: &[u32], others: &[Vec<u32>]) -> bool
     ensures { result ≡ is_among monomial.now (map axes_of others.now) }
 {

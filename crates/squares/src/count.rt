@@ -10,6 +10,7 @@ use dyadic::Dy;
 const MOST_NUMBERS: usize = 8_000;
 
 // What is left without the axes, or none where there are more.
+#[tactic(auto, using(crate::proofs::Counting::axes_more, crate::proofs::Counting::axes_done))]
 fn without_axes(left: usize, monomials: &[Vec<u32>]) -> Option<usize>
     ensures { Leaves (sizes_of (map axes_of monomials.now)) left result }
 {
@@ -21,6 +22,7 @@ fn without_axes(left: usize, monomials: &[Vec<u32>]) -> Option<usize>
 }
 
 // What is left without the numbers of rows, or none where there are more.
+#[tactic(auto, using(crate::proofs::Counting::rows_more, crate::proofs::Counting::rows_done))]
 fn without_rows(left: usize, rows: &[Vec<Dy>]) -> Option<usize>
     ensures { Leaves (sizes_of (map numbers_of rows.now)) left result }
 {
@@ -32,6 +34,7 @@ fn without_rows(left: usize, rows: &[Vec<Dy>]) -> Option<usize>
 }
 
 // What is left without the numbers of a block, or none where there are more.
+#[tactic(auto, using(crate::proofs::Counting::numbers_in))]
 fn without_block(left: usize, block: &Block) -> Option<usize>
     ensures { Leaves (block_numbers (block_of block.now)) left result }
 {
@@ -41,6 +44,7 @@ fn without_block(left: usize, block: &Block) -> Option<usize>
 }
 
 // What is left without the numbers of blocks, or none where there are more.
+#[tactic(auto, using(crate::proofs::Counting::blocks_more, crate::proofs::Counting::blocks_done))]
 fn without_blocks(left: usize, blocks: &[Block]) -> Option<usize>
     ensures { Leaves (blocks_numbers (map block_of blocks.now)) left result }
 {
@@ -52,6 +56,7 @@ fn without_blocks(left: usize, blocks: &[Block]) -> Option<usize>
 }
 
 /// Whether the line has at most 8,000 numbers.
+#[tactic(auto, using(crate::proofs::Counting::pairs_are))]
 pub fn are_few(pairs: &[(u32, Dy)], blocks: &[Block]) -> bool
     ensures { result ≡
         nat_le (all_numbers (multipliers_of pairs.now) (map block_of blocks.now)) most_numbers }

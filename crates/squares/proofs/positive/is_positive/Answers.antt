@@ -12,8 +12,8 @@ returns-in-None c =
     let k = c.args.combination.now in let bs = c.args.blocks.now in let space = c.args.space.now in let centre = c.args.centre.now in let old = c.new-budget.result in let mid = c.rest_polynomial.new.budget in
     no_rest k bs space centre old mid c.new-budget.ensures (subst (λ (o : Option Polynomial). IsRest k bs space centre old mid o) c.in-None.is c.in_ok-rest_polynomial.ensures)
 
-pub returns : goal.returns
-returns c =
+pub returns-in-Some : goal.returns-in-Some
+returns-in-Some c =
     let k = c.args.combination.now in let bs = c.args.blocks.now in let space = c.args.space.now in let centre = c.args.centre.now in let old = c.new-budget.result in let mid = c.rest_polynomial.new.budget in
     has_rest k bs space centre old mid c.in-Some.rest c.new-budget.ensures (sym c.are_few.ensures ∙ c.if-not-are_few.false)
     (subst (λ (o : Option Polynomial). IsRest k bs space centre old mid o) c.in-Some.is c.in_ok-rest_polynomial.ensures) c.is_above_allowed.result c.is_above_allowed.ensures

@@ -18,8 +18,8 @@ returns-in-None c =
     inr (block_none space centre b (terms_of c.args.rest.now) c.args.budget.now c.block_polynomial.new.budget
     (subst (λ (o : Option Polynomial). ComesTo (block_polynomial space centre b) c.args.budget.now c.block_polynomial.new.budget o) c.in-None.is c.in_ok-block_polynomial.ensures))
 
-pub returns : goal.returns
-returns c =
+pub returns-in-Some : goal.returns-in-Some
+returns-in-Some c =
     let space = space_of c.args.space.now in let centre = space_of c.args.centre.now in let b = block_of c.args.block.now in let mid = c.block_polynomial.new.budget in
     IfOk-weaker c.subtract_short.result _ _
     (λ (r : Bool) h. block_taken space centre b (terms_of c.args.rest.now) c.in-Some.squares c.args.budget.now mid c.subtract_short.new.budget c.subtract_short.new.rest r
