@@ -33,8 +33,8 @@ returns-in-None c = let k = c.args.combination.now in let centre = c.args.centre
     (subst (λ (nodes : List Node). IsExpanded (space_of centre) nodes c.deref.result.now c.args.budget.now mid None) c.graph-graph.ensures.graph
     (subst (λ (o : Option (Vec Polynomial Global)). IsExpanded (space_of centre) c.graph-graph.result.now c.deref.result.now c.args.budget.now mid o) c.in-None.is c.in_ok-expand_nodes.ensures))
 
-pub returns-in-Some : goal.returns-in-Some
-returns-in-Some c = let k = c.args.combination.now in let centre = c.args.centre.now in let mid = c.expand_nodes.new.budget in let ps = c.in-Some.polynomials in
+pub returns : goal.returns
+returns c = let k = c.args.combination.now in let centre = c.args.centre.now in let mid = c.expand_nodes.new.budget in let ps = c.in-Some.polynomials in
     IfOk-weaker c.combined_polynomial.result _ _
     (λ (r : Option Polynomial) h. spread_all k centre c.graph-graph.ensures.whole.problem c.requires c.deref.result.now ps c.args.budget.now mid c.combined_polynomial.new.budget r (c.deref.ensures.value ∙ c.in_ok-marks.ensures)
     (subst (λ (nodes : List Node). IsExpanded (space_of centre) nodes c.deref.result.now c.args.budget.now mid (Some ps)) c.graph-graph.ensures.graph
