@@ -1,9 +1,7 @@
 -- The numbers of a line, counted one list after the other.
-use Rattle.std.proofs.Common.{◌≡◌, ℕ, ◌+◌, ◌-◌, ◌*◌, ◌<◌, ◌≤◌, List, [], ◌∷◌, Vec, length, map, drop, get_or, Bool, true, false, nat_le, refl, ap, sym, ◌∙◌, arith}
+use Rattle.std.proofs.Common.{◌≡◌, ℕ, ◌+◌, ◌<◌, ◌≤◌, List, Vec, length, map, drop, get_or, ap, ◌∙◌}
 use Rattle.std.proofs.lemmas.List.{drop_all, drop_more, length-map}
-use Rattle.std.proofs.lemmas.Bool.Decides.{nat_tests}
 use Rattle.std.specs.declared.alloc.Global.{Global}
-use Rattle.cover_line.specs.Line.{Multipliers}
 use Rattle.cover_line.specs.Views.{axes_of, block_of, multipliers_of, numbers_of}
 use Rattle.cover_line.specs.declared.block.Block.{Block}
 use Rattle.dyadic.specs.Views.{dyadic_of}

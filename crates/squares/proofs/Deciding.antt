@@ -1,5 +1,5 @@
 -- What decides whether a line is positive.
-use Rattle.std.proofs.Common.{◌≡◌, ℕ, ◌+◌, ◌<◌, ◌≤◌, ◌⊎◌, inl, inr, List, length, map, Bool, true, false, ◌&&◌, nat_le, Option, Some, None, refl, ap, ap₂, sym, ◌∙◌, subst, arith}
+use Rattle.std.proofs.Common.{◌≡◌, ℕ, ◌+◌, ◌<◌, ◌≤◌, ◌⊎◌, inl, inr, List, length, map, Bool, true, false, ◌&&◌, nat_le, Some, None, refl, ap, ap₂, sym, ◌∙◌, arith}
 use Rattle.std.proofs.lemmas.Bool.Decides.{nat_tests}
 use Rattle.cover_line.specs.Views.{block_of, multipliers_of}
 use Rattle.interval_model.specs.Interval.{Interval}
@@ -10,7 +10,7 @@ use Rattle.poly_graph.specs.ProblemViews.{problem_of}
 use Rattle.square_model.specs.Polynomial as model
 use Rattle.square_model.specs.Positive.{Multipliers, all_numbers, all_steps, allowed_range, are_blocks, is_above, is_small, most_numbers, most_steps}
 use Rattle.square_model.specs.Range.{apart_range, polynomial_range}
-use Rattle.squares.specs.Pairs.{AreRanges, sum_of_ranges}
+use Rattle.squares.specs.Pairs.{sum_of_ranges}
 use Rattle.squares.specs.Rest.{are_short, is_above_allowed, node_steps, rest_of, IsRest, TellsPositive}
 use Rattle.squares.specs.Views.{apart_over, terms_of}
 use Rattle.cover_line.specs.declared.block.Block.{Block}

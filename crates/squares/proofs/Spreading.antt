@@ -1,15 +1,15 @@
 -- A combination that is expanded, and less its blocks, within the limits or not.
-use Rattle.std.proofs.Common.{◌≡◌, ℕ, ◌+◌, ◌<◌, ◌≤◌, ◌⊎◌, inl, inr, List, Vec, length, map, get_or, Bool, true, false, Option, Some, None, refl, ap, sym, ◌∙◌, subst, arith}
+use Rattle.std.proofs.Common.{◌≡◌, ℕ, ◌+◌, ◌<◌, ◌≤◌, inl, inr, List, Vec, length, map, get_or, Bool, true, Option, Some, None, ap, ◌∙◌, subst, arith}
 use Rattle.std.specs.declared.alloc.Global.{Global}
 use Rattle.cover_line.specs.Views.{block_of, multipliers_of}
 use Rattle.dyadic.specs.declared.dy.Dy.{Dy}
 use Rattle.ival.specs.SpaceViews.{space_of}
 use Rattle.ival.specs.declared.space.Space.{Space}
-use Rattle.poly_graph.specs.Problem.{Problem, IsProblem, atom_at, no_place}
+use Rattle.poly_graph.specs.Problem.{IsProblem, atom_at, no_place}
 use Rattle.poly_graph.specs.ProblemViews.{problem_of}
 use Rattle.square_model.specs.Polynomial as model
-use Rattle.square_model.specs.Positive.{are_blocks, expanded_nodes, less_blocks}
-use Rattle.square_model.specs.Steps.{Counted, counted}
+use Rattle.square_model.specs.Positive.{expanded_nodes}
+use Rattle.square_model.specs.Steps.{Counted}
 use Rattle.squares.specs.Blocks.{ComesTo}
 use Rattle.squares.specs.Expanding.{IsExpanded, IsExpandedTo}
 use Rattle.squares.specs.Pairs.{NamesAtoms}

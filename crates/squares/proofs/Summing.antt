@@ -1,7 +1,6 @@
 -- Sums onto what is there, one after the other, and their steps, which only grow.
-use Rattle.std.proofs.Common.{◌≡◌, ℕ, zero, suc, ◌+◌, ◌*◌, ◌<◌, ◌≤◌, ◌⊎◌, inl, inr, List, [], ◌∷◌, length, map, drop, get_or, Bool, true, false, ◌&&◌, Some, None, refl, ap, sym, ◌∙◌, subst, arith}
+use Rattle.std.proofs.Common.{◌≡◌, ℕ, zero, suc, ◌+◌, ◌<◌, ◌≤◌, inl, inr, List, [], ◌∷◌, length, drop, get_or, Bool, true, false, ◌&&◌, Some, None, refl, ap, sym, ◌∙◌, subst, arith}
 use Rattle.std.proofs.lemmas.List.{drop_more}
-use Rattle.cover_line.specs.Line.{Multipliers}
 use Rattle.cover_line.specs.Views.{multipliers_of}
 use Rattle.dyadic.specs.Rounding.{Dyadic}
 use Rattle.dyadic.specs.Views.{dyadic_of}
@@ -11,11 +10,11 @@ use Rattle.poly_graph.specs.Problem.{Problem, atom_at, term_of}
 use Rattle.square_model.specs.Block.{Block, block_polynomial, is_block}
 use Rattle.square_model.specs.Polynomial as model
 use Rattle.square_model.specs.Polynomial.{only, constant_polynomial, is_short, polynomial_negated, polynomial_of, polynomial_sum}
-use Rattle.square_model.specs.Positive.{are_blocks, less_blocks, combined_polynomial}
-use Rattle.square_model.specs.Steps.{Counted, counted, counted_negated, counted_sum, counted_product}
+use Rattle.square_model.specs.Positive.{less_blocks, combined_polynomial}
+use Rattle.square_model.specs.Steps.{Counted, counted, counted_sum, counted_product}
 use Rattle.squares.specs.Blocks.{ComesTo}
 use Rattle.squares.specs.Nodes.{terms_at}
-use Rattle.squares.specs.Sums.{IsAdded, with_multiple, combined_terms, is_fit, less_block, IsShortTaken, IsTaken, AreTaken}
+use Rattle.squares.specs.Sums.{IsAdded, with_multiple, combined_terms, is_fit, less_block, IsShortTaken, IsTaken}
 use Rattle.squares.specs.Views.{terms_of}
 use Rattle.squares.specs.declared.budget.Budget.{Budget}
 use Rattle.squares.specs.declared.polynomial.Polynomial.{Polynomial}

@@ -1,5 +1,5 @@
 -- Blocks that are taken away, one after the other.
-use Rattle.std.proofs.Common.{◌≡◌, ℕ, zero, suc, ◌+◌, ◌<◌, ◌≤◌, ◌⊎◌, inl, inr, List, [], ◌∷◌, length, map, drop, get_or, Bool, true, false, ◌&&◌, refl, ap, sym, ◌∙◌, subst, arith}
+use Rattle.std.proofs.Common.{◌≡◌, ℕ, zero, suc, ◌+◌, ◌<◌, ◌≤◌, inl, inr, List, [], ◌∷◌, length, map, drop, get_or, Bool, true, false, ◌&&◌, refl, ap, sym, ◌∙◌, subst, arith}
 use Rattle.std.proofs.lemmas.List.{drop_more}
 use Rattle.interval_model.specs.Space.{Space}
 use Rattle.square_model.specs.Block as block
@@ -8,7 +8,7 @@ use Rattle.square_model.specs.Polynomial as model
 use Rattle.square_model.specs.Polynomial.{polynomial_negated, polynomial_sum}
 use Rattle.square_model.specs.Positive.{are_blocks, less_blocks}
 use Rattle.square_model.specs.Steps.{Counted, counted}
-use Rattle.squares.specs.Sums.{IsAdded, is_fit, less_block, IsTaken, AreTaken}
+use Rattle.squares.specs.Sums.{is_fit, less_block, IsTaken, AreTaken}
 use Rattle.squares.specs.Views.{terms_of}
 use Rattle.cover_line.specs.declared.block.Block.{Block}
 use Rattle.cover_line.specs.Views.{block_of}

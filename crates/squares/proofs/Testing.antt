@@ -1,5 +1,5 @@
 -- A test of an axis by the axis' domain, and tests of monomials one after the other.
-use Rattle.std.proofs.Common.{◌≡◌, ℕ, zero, suc, ◌+◌, ◌-◌, ◌<◌, ◌≤◌, List, [], ◌∷◌, Vec, length, map, drop, get_or, Bool, true, false, not, ◌&&◌, ◌||◌, cond, nat_eq, nat_le, leb, ltb, nat_lt, IsTrue, refl, ap, ap₂, sym, ◌∙◌, arith}
+use Rattle.std.proofs.Common.{◌≡◌, ℕ, zero, suc, ◌+◌, ◌-◌, ◌<◌, ◌≤◌, List, [], ◌∷◌, Vec, length, map, drop, get_or, Bool, true, false, ◌&&◌, ◌||◌, nat_eq, nat_le, refl, ap, ap₂, sym, ◌∙◌, arith}
 use Rattle.std.proofs.lemmas.List.{drop_all, drop_more, length-drop, length-map}
 use Rattle.std.proofs.lemmas.Bool.Decides.{nat_tests}
 use Rattle.std.specs.Cmp.Lexicographic.{slice_cmp}

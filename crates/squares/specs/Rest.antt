@@ -5,10 +5,9 @@ use Rattle.interval_model.specs.Interval.{Interval}
 use Rattle.ival.specs.SpaceViews.{space_of}
 use Rattle.ival.specs.Views.{interval_of}
 use Rattle.ival.specs.declared.space.Space.{Space}
-use Rattle.poly_graph.specs.Problem.{Problem}
 use Rattle.poly_graph.specs.ProblemViews.{problem_of}
 use Rattle.square_model.specs.Polynomial as model
-use Rattle.square_model.specs.Positive.{Multipliers, are_blocks, are_short_below, combined_polynomial, expanded_nodes, is_above, is_positive, rest_polynomial, steps_below}
+use Rattle.square_model.specs.Positive.{are_blocks, are_short_below, combined_polynomial, expanded_nodes, is_above, is_positive, rest_polynomial, steps_below}
 use Rattle.square_model.specs.Range.{polynomial_range}
 use Rattle.square_model.specs.Steps.{Counted}
 use Rattle.squares.specs.Pairs.{AreRanges, sum_of_ranges}

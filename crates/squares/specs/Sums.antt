@@ -1,5 +1,5 @@
 -- Sums of polynomials, one after the other, and the steps that they take.
-use Rattle.std.specs.Prelude.{◌≡◌, ℕ, ◌+◌, ◌<◌, ◌⊎◌, List, [], ◌∷◌, Bool, true, false, ◌&&◌, Option, Some, None}
+use Rattle.std.specs.Prelude.{◌≡◌, ◌+◌, ◌<◌, ◌⊎◌, List, [], ◌∷◌, Bool, true, false, ◌&&◌, Option, Some, None}
 use Rattle.cover_line.specs.Line.{Multipliers}
 use Rattle.dyadic.specs.Rounding.{Dyadic}
 use Rattle.interval_model.specs.Space.{Space}

@@ -1,4 +1,4 @@
-use Rattle.std.proofs.Common.{◌≡◌, ℕ, suc, ◌-◌, List, Bool, length, ap, ◌∙◌, arith}
+use Rattle.std.proofs.Common.{◌≡◌, ℕ, suc, ◌-◌, length, ap, ◌∙◌, arith}
 use Rattle.square_model.specs.Positive.{marked_below}
 use Rattle.squares.proofs.Marking.{visited_length}
 use Rattle.squares.proofs.marks.mark_below.Goals as goal

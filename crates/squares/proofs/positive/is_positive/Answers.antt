@@ -1,4 +1,4 @@
-use Rattle.std.proofs.Common.{Option, Some, None, sym, subst, ◌∙◌}
+use Rattle.std.proofs.Common.{Option, sym, subst, ◌∙◌}
 use Rattle.squares.specs.Rest.{IsRest}
 use Rattle.squares.specs.declared.polynomial.Polynomial.{Polynomial}
 use Rattle.squares.proofs.Deciding.{has_rest, no_rest, too_wide}

@@ -1,4 +1,4 @@
-use Rattle.std.proofs.Common.{Bool, true, false, map, subst}
+use Rattle.std.proofs.Common.{Bool, map, subst}
 use Rattle.cover_line.specs.Views.{block_of}
 use Rattle.ival.specs.SpaceViews.{space_of}
 use Rattle.squares.specs.Sums.{AreTaken}

@@ -1,5 +1,4 @@
-use Rattle.std.proofs.Common.{◌≡◌, List, Vec, Bool, Option, Some, None, length, map, ap, sym, subst, ◌∙◌}
-use Rattle.std.proofs.lemmas.List.{length-map}
+use Rattle.std.proofs.Common.{List, Vec, Bool, Option, Some, None, length, map, ap, sym, subst, ◌∙◌}
 use Rattle.std.proofs.lemmas.Result.{IfOk-weaker}
 use Rattle.std.specs.Prelude.{IfOk}
 use Rattle.std.specs.declared.alloc.Global.{Global}
@@ -14,7 +13,7 @@ use Rattle.squares.specs.Sums.{combined_terms}
 use Rattle.squares.specs.Views.{terms_of}
 use Rattle.squares.specs.declared.polynomial.Polynomial.{Polynomial}
 use Rattle.squares.proofs.Marking.{marked_closed, marks_length, root_marks_length}
-use Rattle.squares.proofs.Spreading.{marks_of, spread_all, spread_none}
+use Rattle.squares.proofs.Spreading.{spread_all, spread_none}
 use Rattle.squares.proofs.rest.spread.Goals as goal
 
 pub expand_nodes-requires-clause-count : goal.expand_nodes-requires-clause-count

@@ -1,4 +1,4 @@
-use Rattle.std.proofs.Common.{◌≡◌, inl, inr, Option, Some, None, Bool, true, ap, sym, subst, ◌∙◌}
+use Rattle.std.proofs.Common.{inl, inr, Option, Bool, sym, subst, ◌∙◌}
 use Rattle.std.proofs.lemmas.Result.{IfOk-weaker}
 use Rattle.cover_line.specs.Views.{block_of}
 use Rattle.ival.specs.SpaceViews.{space_of}

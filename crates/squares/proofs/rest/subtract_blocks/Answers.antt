@@ -1,10 +1,10 @@
-use Rattle.std.proofs.Common.{◌≡◌, ℕ, ◌+◌, ◌<◌, ◌≤◌, Bool, true, false, length, refl, ap, sym, subst, ◌∙◌, arith}
+use Rattle.std.proofs.Common.{Bool, true, false, refl, subst, arith}
 use Rattle.ival.specs.SpaceViews.{space_of}
-use Rattle.squares.specs.Sums.{IsTaken, less_block}
+use Rattle.squares.specs.Sums.{IsTaken}
 use Rattle.squares.specs.Views.{terms_of}
 use Rattle.cover_line.specs.declared.block.Block.{Block}
 use Rattle.cover_line.specs.Views.{block_of}
-use Rattle.squares.proofs.Taking.{after_steps, all_taken, none_taken, one_taken}
+use Rattle.squares.proofs.Taking.{all_taken, none_taken, one_taken}
 use Rattle.squares.proofs.rest.subtract_blocks.Goals as goal
 
 pub loop-place-init : goal.loop-place-init

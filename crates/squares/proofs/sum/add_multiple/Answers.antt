@@ -1,7 +1,7 @@
-use Rattle.std.proofs.Common.{◌≡◌, Option, Some, None, Bool, ap, subst, ◌∙◌}
+use Rattle.std.proofs.Common.{Option, Bool, ap, subst, ◌∙◌}
 use Rattle.std.proofs.lemmas.Result.{IfOk-weaker}
 use Rattle.dyadic.specs.Views.{dyadic_of}
-use Rattle.square_model.specs.Polynomial.{only, constant_polynomial}
+use Rattle.square_model.specs.Polynomial.{constant_polynomial}
 use Rattle.square_model.specs.Steps.{counted, counted_product}
 use Rattle.squares.specs.Blocks.{ComesTo}
 use Rattle.squares.specs.Views.{terms_of}

@@ -1,4 +1,4 @@
-use Rattle.std.proofs.Common.{◌≡◌, ℕ, ◌+◌, ◌-◌, ◌<◌, List, [], Bool, true, false, length, map, drop, ap, sym, subst, ◌∙◌, arith}
+use Rattle.std.proofs.Common.{◌≡◌, ℕ, ◌+◌, ◌-◌, ◌<◌, List, [], Bool, length, map, drop, ap, sym, subst, ◌∙◌, arith}
 use Rattle.dyadic.specs.Views.{dyadic_of}
 use Rattle.dyadic.specs.declared.dy.Dy.{Dy}
 use Rattle.cover_line.specs.Views.{multipliers_of}
