@@ -82,7 +82,7 @@ struct Pairs {
     ranges: Vec<Ival>,
 }
 
-fn pairs(alloc: Global, texts: &[(u32, &str, &str)]) -> Option<Pairs> {
+fn read_pairs(alloc: Global, texts: &[(u32, &str, &str)]) -> Option<Pairs> {
     let mut multipliers = Vec::new(alloc);
     let mut ranges = Vec::new(alloc);
     for (atom, multiplier, most) in texts {
@@ -136,7 +136,7 @@ fn is_told(alloc: Global, row: &Row) -> bool {
     let Ok(problem) = read_problem(alloc, row.script.as_bytes(), None) else {
         return false;
     };
-    match pairs(alloc, row.pairs) {
+    match read_pairs(alloc, row.pairs) {
         Some(pairs) => told(alloc, &problem, &pairs, row.blocks) == Some(row.positive),
         None => false,
     }
