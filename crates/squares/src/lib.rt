@@ -1,5 +1,6 @@
 //! Sums of squares, computed: polynomials about the centre of a space with intervals for coefficients.
 //!
+//! [`is_positive`] tells whether a combination of atoms, less blocks of squares, is above all that its atoms' ranges allow.
 //! [`Polynomial`] has sums, products and opposites, and [`polynomial_range`] its range over a space. [`expand_nodes`] gives
 //! the polynomials of a graph's marked nodes, and [`block_polynomial`] that of a block of squares. Steps are taken from a
 //! [`Budget`], and where too few are left there is no polynomial.
