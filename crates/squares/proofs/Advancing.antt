@@ -18,23 +18,23 @@ use Rattle.squares.proofs.Unfolding.{HasChildren, node_unfolds, node_costs}
 
 -- ---- children come first
 
-either : (s t : Bool) → (s || t) ≡ true → (s ≡ true) ⊎ (t ≡ true)
-either true t h = inl refl
-either false t h = inr h
+pub either_passes : (s t : Bool) → (s || t) ≡ true → (s ≡ true) ⊎ (t ≡ true)
+either_passes true t h = inl refl
+either_passes false t h = inr h
 
 at-child : (a i n : ℕ) → IsTrue (nat_lt a n) → nat_eq a i ≡ true → i < n
 at-child a i n o h = subst (λ (j : ℕ). j < n) (eqb→eq a i (passes _ h)) (ltb→lt a n (passes _ o))
 
 at-either : (a b i n : ℕ) → IsTrue (nat_lt a n && nat_lt b n) → (nat_eq a i || nat_eq b i) ≡ true → i < n
-at-either a b i n o h = let p = both_true (nat_lt a n) (nat_lt b n) o in elim (either (nat_eq a i) (nat_eq b i) h) [ inl e ↦ at-child a i n p.0 e | inr e ↦ at-child b i n p.1 e ]
+at-either a b i n o h = let p = both_true (nat_lt a n) (nat_lt b n) o in elim (either_passes (nat_eq a i) (nat_eq b i) h) [ inl e ↦ at-child a i n p.0 e | inr e ↦ at-child b i n p.1 e ]
 
-child-before : (n : ℕ) (node : Node) → IsTrue (comes_after n node) → (i : ℕ) → has_child i node ≡ true → i < n
-child-before n (constant_node q) o i h = cc
-child-before n (variable_node axis) o i h = cc
-child-before n (negate_node a) o i h = at-child a i n o h
-child-before n (add_node a b) o i h = at-either a b i n o h
-child-before n (multiply_node a b) o i h = at-either a b i n o h
-child-before n (square_node a) o i h = at-child a i n o h
+pub child_before : (n : ℕ) (node : Node) → IsTrue (comes_after n node) → (i : ℕ) → has_child i node ≡ true → i < n
+child_before n (constant_node q) o i h = cc
+child_before n (variable_node axis) o i h = cc
+child_before n (negate_node a) o i h = at-child a i n o h
+child_before n (add_node a b) o i h = at-either a b i n o h
+child_before n (multiply_node a b) o i h = at-either a b i n o h
+child_before n (square_node a) o i h = at-child a i n o h
 
 -- ---- one polynomial more
 
@@ -77,7 +77,7 @@ module _ (centre : Space) (nodes : List Node) (ordered : IsTrue (in_order 0 node
   children : (n : ℕ) (ts : List model.Polynomial) (left all : ℕ) → IsExpandedTo centre nodes marks n ts left all → (node : Node) → slice_get nodes n ≡ Some node → get_or marks n false ≡ true → HasChildren centre nodes ts node
   children n ts left all s node e m i h =
       let zero-on : 0 + n ≡ n = omega arith in
-      s.polynomials i (child-before n node (subst (λ (j : ℕ). IsTrue (comes_after j node)) zero-on (in_order_at 0 nodes ordered n node e).0) i h) (closed n node e m i h)
+      s.polynomials i (child_before n node (subst (λ (j : ℕ). IsTrue (comes_after j node)) zero-on (in_order_at 0 nodes ordered n node e).0) i h) (closed n node e m i h)
 
   -- the steps and the test of one node more
   next-steps : (n : ℕ) (node : Node) (b : Bool) → slice_get nodes n ≡ Some node → get_or marks n false ≡ b → steps_below centre nodes marks (suc n) ≡ steps_below centre nodes marks n + cond b (node_steps centre nodes (Some node)) 0

@@ -8,8 +8,8 @@ use Rattle.square_model.specs.Block.{bound_polynomial, greatest_square}
 use Rattle.square_model.specs.Steps.{Counted, counted}
 use Rattle.squares.specs.Views.{terms_of}
 use Rattle.squares.specs.Blocks.{ComesTo, IsFactored}
-use Rattle.squares.specs.declared.block.Factor.{Factor}
-use Rattle.squares.specs.declared.block.Factor.TheVariants.{One, BoundOf}
+use Rattle.cover_line.specs.declared.block.Factor.{Factor}
+use Rattle.cover_line.specs.declared.block.Factor.TheVariants.{One, BoundOf}
 use Rattle.squares.specs.declared.budget.Budget.{Budget}
 use Rattle.squares.specs.declared.polynomial.Polynomial.{Polynomial}
 

@@ -1,14 +1,13 @@
 -- The rows of a block, one place after the other.
 use Rattle.std.proofs.Common.{◌≡◌, ℕ, suc, zero, ◌+◌, ◌*◌, ◌<◌, ◌≤◌, List, [], ◌∷◌, Vec, map, length, get_or, drop, min, refl, ap, ap₂, ◌∙◌, arith}
 use Rattle.std.specs.declared.alloc.Global.{Global}
+use Rattle.cover_line.specs.Views.{axes_of, numbers_of}
 use Rattle.dyadic.specs.Rounding.{Dyadic}
 use Rattle.dyadic.specs.Views.{dyadic_of}
 use Rattle.dyadic.specs.declared.dy.Dy.{Dy}
 use Rattle.square_model.specs.Polynomial.{Monomial, Polynomial}
 use Rattle.square_model.specs.Block.{row_given, row_polynomial, squares_with}
 use Rattle.square_model.specs.Steps.{Counted, counted_sum, counted_product}
-use Rattle.squares.specs.Views.{axes_of}
-use Rattle.squares.specs.Blocks.{numbers_of}
 
 -- ---- a row
 

@@ -10,14 +10,14 @@ use Rattle.square_model.specs.Positive.{node_polynomial, node_steps}
 use Rattle.square_model.specs.Steps.{sum_steps, product_steps}
 use Rattle.squares.specs.Nodes.{terms_at, node_terms, node_cost}
 
-is-itself : (a : ℕ) → nat_eq a a ≡ true
-is-itself a = grind (arith, nat_tests)
+pub is_itself : (a : ℕ) → nat_eq a a ≡ true
+is_itself a = grind (arith, nat_tests)
 
-first-of : (a b : ℕ) → (nat_eq a a || nat_eq b a) ≡ true
-first-of a b = ap (λ (t : Bool). t || nat_eq b a) (is-itself a)
+pub first_of : (a b : ℕ) → (nat_eq a a || nat_eq b a) ≡ true
+first_of a b = ap (λ (t : Bool). t || nat_eq b a) (is_itself a)
 
-second-of : (a b : ℕ) → (nat_eq a b || nat_eq b b) ≡ true
-second-of a b = ap (λ (t : Bool). nat_eq a b || t) (is-itself b) ∙ either (nat_eq a b)
+pub second_of : (a b : ℕ) → (nat_eq a b || nat_eq b b) ≡ true
+second_of a b = ap (λ (t : Bool). nat_eq a b || t) (is_itself b) ∙ either (nat_eq a b)
   where
     either : (t : Bool) → (t || true) ≡ true
     either true = refl
@@ -30,10 +30,10 @@ HasChildren centre nodes ts node = (i : ℕ) → has_child i node ≡ true → t
 by-kind : (centre : Space) (nodes : List Node) (ts : List Polynomial) (node : Node) → HasChildren centre nodes ts node → node_terms centre ts node ≡ polynomial_of centre (node_term (graph_terms nodes) node)
 by-kind centre nodes ts (constant_node q) h = refl
 by-kind centre nodes ts (variable_node axis) h = refl
-by-kind centre nodes ts (negate_node a) h = ap polynomial_negated (h a (is-itself a))
-by-kind centre nodes ts (add_node a b) h = ap₂ polynomial_sum (h a (first-of a b)) (h b (second-of a b))
-by-kind centre nodes ts (multiply_node a b) h = ap₂ polynomial_product (h a (first-of a b)) (h b (second-of a b))
-by-kind centre nodes ts (square_node a) h = ap (λ (p : Polynomial). polynomial_product p p) (h a (is-itself a))
+by-kind centre nodes ts (negate_node a) h = ap polynomial_negated (h a (is_itself a))
+by-kind centre nodes ts (add_node a b) h = ap₂ polynomial_sum (h a (first_of a b)) (h b (second_of a b))
+by-kind centre nodes ts (multiply_node a b) h = ap₂ polynomial_product (h a (first_of a b)) (h b (second_of a b))
+by-kind centre nodes ts (square_node a) h = ap (λ (p : Polynomial). polynomial_product p p) (h a (is_itself a))
 
 pub node_unfolds : (centre : Space) (nodes : List Node) → IsTrue (in_order 0 nodes) → (ts : List Polynomial) (k : ℕ) (node : Node) → slice_get nodes k ≡ Some node → HasChildren centre nodes ts node →
     node_terms centre ts node ≡ node_polynomial centre nodes k
@@ -43,6 +43,6 @@ pub node_costs : (centre : Space) (nodes : List Node) (ts : List Polynomial) (no
 node_costs centre nodes ts (constant_node q) h = refl
 node_costs centre nodes ts (variable_node axis) h = refl
 node_costs centre nodes ts (negate_node a) h = refl
-node_costs centre nodes ts (add_node a b) h = ap₂ sum_steps (h a (first-of a b)) (h b (second-of a b))
-node_costs centre nodes ts (multiply_node a b) h = ap₂ product_steps (h a (first-of a b)) (h b (second-of a b))
-node_costs centre nodes ts (square_node a) h = ap (λ (p : Polynomial). product_steps p p) (h a (is-itself a))
+node_costs centre nodes ts (add_node a b) h = ap₂ sum_steps (h a (first_of a b)) (h b (second_of a b))
+node_costs centre nodes ts (multiply_node a b) h = ap₂ product_steps (h a (first_of a b)) (h b (second_of a b))
+node_costs centre nodes ts (square_node a) h = ap (λ (p : Polynomial). product_steps p p) (h a (is_itself a))

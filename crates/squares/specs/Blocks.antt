@@ -1,18 +1,13 @@
 -- Blocks in code, and what comes of them.
-use Rattle.std.specs.Prelude.{◌≡◌, ◌+◌, ◌<◌, List, [], Vec, map, Option, Some, None}
-use Rattle.std.specs.declared.alloc.Global.{Global}
-use Rattle.dyadic.specs.Rounding.{Dyadic}
-use Rattle.dyadic.specs.Views.{dyadic_of}
-use Rattle.dyadic.specs.declared.dy.Dy.{Dy}
+use Rattle.std.specs.Prelude.{◌≡◌, ◌+◌, ◌<◌, [], map, Option, Some, None}
 use Rattle.ival.specs.SpaceViews.{space_of}
 use Rattle.ival.specs.declared.space.Space.{Space}
-use Rattle.square_model.specs.Block as model
 use Rattle.square_model.specs.Block.{squares_with, factored, block_polynomial}
 use Rattle.square_model.specs.Steps.{Counted, counted, counted_product}
-use Rattle.squares.specs.Views.{axes_of, terms_of}
 use Rattle.cover_line.specs.declared.block.Block.{Block}
 use Rattle.cover_line.specs.declared.block.Factor.{Factor}
 use Rattle.cover_line.specs.Views.{axes_of, block_of, factor_of, numbers_of}
+use Rattle.squares.specs.Views.{terms_of}
 use Rattle.squares.specs.declared.budget.Budget.{Budget}
 use Rattle.squares.specs.declared.polynomial.Polynomial.{Polynomial}
 

@@ -5,6 +5,7 @@ use Rattle.std.specs.List.Sorted.{IsStrictlySortedBy}
 use Rattle.std.specs.Map.{keys_of}
 use Rattle.std.specs.Ordering.{nat_cmp}
 use Rattle.std.specs.declared.alloc.Global.{Global}
+use Rattle.cover_line.specs.Views.{axes_of}
 use Rattle.dyadic.specs.Rounding.{Dyadic}
 use Rattle.ival.specs.declared.ends.Ival.{Ival}
 use Rattle.ival.specs.Views.{interval_of}
@@ -17,9 +18,6 @@ use Rattle.square_model.specs.Polynomial.{Monomial, only, given}
 use Rattle.squares.specs.declared.budget.Budget.{Budget}
 use Rattle.squares.specs.declared.polynomial.Polynomial.{Polynomial}
 use Rattle.squares.specs.declared.range.Factors.{Factors}
-
-abbrev pub axes_of : Vec ℕ Global → Monomial
-axes_of v = v.items
 
 abbrev pub term_of : Vec ℕ Global × Ival → Monomial × Interval
 term_of e = (e.0.items, interval_of e.1)
@@ -52,3 +50,8 @@ Takes n old new false = old.left < n
 -- the number is given to the monomial's coefficient, but no nought
 abbrev pub given_unless_nought : Monomial → Dyadic → model.Polynomial → model.Polynomial
 given_unless_nought m v q = cond (misses_nought (only v)) (given m (only v) q) q
+
+-- so much is left without these, or there are more
+abbrev pub Leaves : ℕ → ℕ → Option ℕ → Type 0
+Leaves n left (Some less) = less + n ≡ left
+Leaves n left None = left < n

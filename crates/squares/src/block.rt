@@ -1,29 +1,21 @@
 // Blocks of squares.
 ghost use Rattle.std.specs.Prelude.{◌≡◌, [], map, IfOk, OnOk};
+ghost use Rattle.cover_line.specs.Views.{axes_of};
 ghost use Rattle.dyadic.specs.Views.{dyadic_of, ext_of};
 ghost use Rattle.ival.specs.SpaceViews.{space_of};
-ghost use Rattle.interval_model.specs.Interval.{misses_nought};
-ghost use Rattle.square_model.specs.Polynomial.{only};
 ghost use Rattle.square_model.specs.Block.{row_given, greatest_square, bound_polynomial};
 ghost use Rattle.square_model.specs.Steps.{counted};
-ghost use Rattle.squares.specs.Views.{axes_of, terms_of, given_unless_nought};
+ghost use Rattle.squares.specs.Views.{terms_of, given_unless_nought};
 ghost use Rattle.squares.specs.Blocks.{AddsSquares, Multiplies, IsFactored, IsBlock};
 
 use crate::budget::Budget;
-use crate::number::{minus_one, only};
+use crate::number::{is_other_than_nought, minus_one, only};
 use crate::polynomial::Polynomial;
 use crate::range::apart;
 use cover_line::{Block, Factor};
 use dyadic::{Dy, Ext};
 use ival::{Ival, Space};
 use std::alloc::{AllocError, Global};
-
-// Whether the number is another one than 0.
-fn is_other_than_nought(number: Dy) -> bool
-    ensures { result ≡ misses_nought (only (dyadic_of number)) }
-{
-    !number.is_zero()
-}
 
 // Gives the number to the coefficient of the monomial, but no 0.
 fn give_unless_nought(
@@ -80,8 +72,8 @@ fn squares(
     Ok(Some(sum))
 }
 
-// The product of two polynomials, or none where too few steps are left.
-fn times(
+/// The product of two polynomials, or none where too few steps are left.
+pub fn times(
     alloc: Global,
     first: &Polynomial,
     second: &Polynomial,
@@ -96,8 +88,8 @@ fn times(
     Ok(Some(product))
 }
 
-// The greatest square of the difference of an axis to the centre.
-fn greatest_square(space: &Space, centre: &Space, axis: u32) -> Ext
+/// The greatest square of the difference of an axis to the centre.
+pub fn greatest_square(space: &Space, centre: &Space, axis: u32) -> Ext
     ensures { ext_of result ≡ greatest_square (space_of space.now) (space_of centre.now) axis }
 {
     match apart(space, centre, axis).sq() {

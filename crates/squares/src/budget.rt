@@ -48,4 +48,17 @@ impl Budget {
         self.left = left - steps;
         true
     }
+
+    /// Takes the steps of a polynomial's range, and tells whether so many were left.
+    pub fn take_range(&mut self, monomials: usize) -> bool
+        ensures { Takes monomials self.old self.new result }
+    {
+        let left = self.left;
+        let steps = monomials as u64;
+        if left < steps {
+            return false;
+        }
+        self.left = left - steps;
+        true
+    }
 }

@@ -34,8 +34,8 @@ fn variable(alloc: Global, axis: u32, centre: Ival) -> Result<Polynomial, AllocE
     Ok(polynomial)
 }
 
-// That of a node.
-fn at<'a>(polynomials: &'a [Polynomial], node: u32) -> &'a Polynomial
+/// That of a node.
+pub fn at<'a>(polynomials: &'a [Polynomial], node: u32) -> &'a Polynomial
     requires { node < length polynomials.now }
     ensures { terms_of result.now ≡ slice_index_or (map terms_of polynomials.now) node [] }
 {

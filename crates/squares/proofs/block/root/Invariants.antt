@@ -1,7 +1,8 @@
 use Rattle.std.proofs.Common.{◌≡◌, [], map, drop}
+use Rattle.cover_line.specs.Views.{axes_of}
 use Rattle.dyadic.specs.Views.{dyadic_of}
 use Rattle.square_model.specs.Block.{row_given}
-use Rattle.squares.specs.Views.{axes_of, terms_of}
+use Rattle.squares.specs.Views.{terms_of}
 use Rattle.squares.proofs.block.root.Given as goal
 
 -- what is left to give makes the same root

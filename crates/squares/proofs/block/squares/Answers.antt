@@ -1,13 +1,13 @@
 use Rattle.std.proofs.Common.{◌≡◌, ℕ, ◌+◌, ◌<◌, ◌≤◌, List, Vec, [], map, length, get_or, drop, ap, ap₂, sym, subst, ◌∙◌, arith}
 use Rattle.std.proofs.lemmas.List.{take_rest}
 use Rattle.std.specs.declared.alloc.Global.{Global}
+use Rattle.cover_line.specs.Views.{axes_of, numbers_of}
 use Rattle.dyadic.specs.Views.{dyadic_of}
 use Rattle.dyadic.specs.declared.dy.Dy.{Dy}
 use Rattle.square_model.specs.Polynomial.{Polynomial, polynomial_sum, polynomial_product}
 use Rattle.square_model.specs.Block.{row_given, squares_with}
 use Rattle.square_model.specs.Steps.{Counted, counted}
-use Rattle.squares.specs.Views.{axes_of, terms_of}
-use Rattle.squares.specs.Blocks.{numbers_of}
+use Rattle.squares.specs.Views.{terms_of}
 use Rattle.squares.proofs.Rowing.{squares_done, squares_next, squares_grow, with_square, over_product, over_sum, balanced}
 use Rattle.squares.proofs.block.squares.Goals as goal
 

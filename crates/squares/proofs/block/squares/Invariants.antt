@@ -1,8 +1,8 @@
 use Rattle.std.proofs.Common.{◌≡◌, ℕ, ◌+◌, [], map, drop}
+use Rattle.cover_line.specs.Views.{axes_of, numbers_of}
 use Rattle.square_model.specs.Block.{squares_with}
 use Rattle.square_model.specs.Steps.{counted}
-use Rattle.squares.specs.Views.{axes_of, terms_of}
-use Rattle.squares.specs.Blocks.{numbers_of}
+use Rattle.squares.specs.Views.{terms_of}
 use Rattle.squares.proofs.block.squares.Given as goal
 
 -- what is left to square makes the same sum, and what was taken are its steps so far

@@ -1,7 +1,8 @@
 use Rattle.std.proofs.Common.{map, ap, ◌∙◌, Option}
+use Rattle.cover_line.specs.Views.{axes_of}
 use Rattle.ival.specs.declared.ends.Ival.{Ival}
 use Rattle.ival.specs.Views.{interval_of}
-use Rattle.squares.specs.Views.{term_of, axes_of, total}
+use Rattle.squares.specs.Views.{term_of, total}
 use Rattle.squares.proofs.Giving.{given_inserted}
 use Rattle.squares.proofs.polynomial.Polynomial.give.Goals as goal
 

@@ -1,8 +1,9 @@
 use Rattle.std.proofs.Common.{ap, ◌∙◌}
+use Rattle.cover_line.specs.Views.{axes_of}
 use Rattle.ival.specs.Views.{interval_of}
 use Rattle.square_model.specs.Polynomial as model
 use Rattle.square_model.specs.Polynomial.{polynomial_sum}
-use Rattle.squares.specs.Views.{axes_of, terms_of}
+use Rattle.squares.specs.Views.{terms_of}
 use Rattle.squares.proofs.Copying.{given_to_nothing}
 use Rattle.squares.proofs.polynomial.Polynomial.sum.Goals as goal
 
