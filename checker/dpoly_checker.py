@@ -14,6 +14,7 @@ together they take more than an hour:
     dpoly_script.py     reads a script: terms, atoms and forms
     dpoly_roots.py      puts constants in the place of its roots and quotients
     dpoly_rows.py       enclosures, narrowing and combinations
+    dpoly_squares.py    combinations less sums of squares
     dpoly_forms.py      whether the form is true
     dpoly_checker.py    the cover and the certificate, line by line
 
@@ -29,8 +30,8 @@ import sys
 import time
 from copy import copy
 from fractions import Fraction
-from typing import (Any, Callable, Collection, Dict, List, Mapping, NamedTuple, Optional, Sequence,
-                    Tuple)
+from typing import (Any, Callable, Collection, Dict, Iterable, Iterator, List, Mapping, NamedTuple,
+                    Optional, Sequence, Tuple)
 
 from dpoly_forms import Form
 from dpoly_intervals import INFINITE, UNIT, End, Interval, meet, rounded, within
@@ -39,6 +40,7 @@ from dpoly_roots import rewritten
 from dpoly_rows import Combiner, Graph, Narrowed, Pair, Rows, Space, narrowed
 from dpoly_script import (SCRIPT_FAULTS, WIDEST, Names, Problem, ScriptFault, Terms,
                           read_expressions, steps_of)
+from dpoly_squares import Block, is_positive
 
 CERTIFICATE_FAULTS = ('BadHeader BadNumber RuleFails Missing Extra WrongBound NotShown BadLine '
                       'LineTooLong').split()
@@ -207,28 +209,49 @@ class Cover:
         return [no] if self.cites(numbers[1], yes) else None
 
     def after_narrowing(self, rule: Rule, numbers: Values, state: State) -> Optional[List[State]]:
-        """The same for the lines that narrow by an atom or by a combination."""
+        """The same for the lines that narrow by an atom or by a combination, or close by squares."""
         if rule.by not in self.version.narrows:
             return None
+        if rule.by == 'squares':
+            return [] if self.is_void(numbers[0], state) else None
         atoms = [it for kind, it in zip(rule.kinds(len(numbers)), numbers) if kind == 'A']
-        marks = [state.marks.get(it) for it in atoms]
-        for atom, mark in zip(atoms, marks):
-            if mark is None or not mark and self.atoms[atom][1] == '=':
-                return None
+        if not self.are_told(atoms, state):
+            return None
         self.rows.follow(state.space)
         if rule.by == 'combination':
             if not self.is_combination(atoms, numbers[1::2]):
                 return None
-            axes = self.combiner.combined([
-                Pair(self.atoms[atom][0], multiplier, self.kept(atom, mark))
-                for atom, multiplier, mark in zip(atoms, numbers[1::2], marks)])
+            axes = self.combiner.combined(self.pairs(zip(atoms, numbers[1::2]), state))
         else:
-            if marks[0] != (rule.by == 'range'):
+            mark = state.marks[atoms[0]]
+            if mark != (rule.by == 'range'):
                 return None
-            axes = narrowed(self.rows, self.atoms[atoms[0]][0], self.kept(atoms[0], marks[0]))
+            axes = narrowed(self.rows, self.atoms[atoms[0]][0], self.kept(atoms[0], mark))
         if rule.shape == 'ends':
             return [] if axes is None else None
         return [state.narrowed_to(axes)] if axes is not None else None
+
+    def are_told(self, atoms: Sequence[int], state: State) -> bool:
+        """Whether each is marked yes, or is an inequality that is marked no."""
+        marks = [(it, state.marks.get(it)) for it in atoms]
+        return all(mark or mark is False and self.atoms[it][1] != '=' for it, mark in marks)
+
+    def pairs(self, pairs: Iterable[Tuple[int, End]], state: State) -> List[Pair]:
+        """Atoms that are told with their multipliers."""
+        return [Pair(self.atoms[it][0], multiplier, self.kept(it, state.marks[it]))
+                for it, multiplier in pairs]
+
+    def is_void(self, squares: Squares, state: State) -> bool:
+        """Whether a combination less sums of squares closes a state."""
+        atoms, multipliers = squares.atoms(), [multiplier for _, multiplier in squares.pairs]
+        if not atoms or not self.are_told(atoms, state):
+            return False
+        if not self.is_combination(atoms, multipliers):
+            return False
+        if not all(it in self.declared for it in squares.axes()):
+            return False
+        pairs = self.pairs(squares.pairs, state)
+        return is_positive(self.rows.graph, state.space, pairs, squares.blocks)
 
     def is_combination(self, atoms: Sequence[int], multipliers: Sequence[End]) -> bool:
         """Whether these are the pairs of a combination."""
@@ -261,10 +284,13 @@ class Cover:
 
     def check_names(self, word: str, numbers: Values) -> None:
         """Each number that names an axis or an atom has to name one."""
+        if not self.has_all(word, numbers):
+            raise CertificateFault('BadNumber')
+
+    def has_all(self, word: str, numbers: Values) -> bool:
+        """Whether there is each axis and each atom that a line of a tree names."""
         limits = {'A': len(self.atoms), 'X': len(self.axes)}
-        for kind, number in zip(RULES[word].kinds(len(numbers)), numbers):
-            if kind in limits and number >= limits[kind]:
-                raise CertificateFault('BadNumber')
+        return all(kind not in limits or it < limits[kind] for kind, it in named(word, numbers))
 
     def after_empty(self, word: str, numbers: Values) -> Optional[List[State]]:
         """What a line of the main tree leaves where the declared box is empty."""
@@ -369,6 +395,73 @@ def grid_number(word: str) -> End:
     return mantissa << exponent + 120
 
 
+class Squares(NamedTuple):
+    """What stands behind the word of a sum of squares."""
+    pairs: List[Tuple[int, End]]
+    blocks: List[Block]
+
+    def atoms(self) -> List[int]:
+        return [atom for atom, _ in self.pairs]
+
+    def axes(self) -> Iterator[int]:
+        for block in self.blocks:
+            if block.factor is not None:
+                yield block.factor
+            for monomial in block.monomials:
+                yield from monomial
+
+    def names(self) -> Iterator[Tuple[str, int]]:
+        """Atoms and axes, each with its letter."""
+        yield from (('A', it) for it in self.atoms())
+        yield from (('X', it) for it in self.axes())
+
+
+def named(word: str, values: Values) -> Iterator[Tuple[str, Any]]:
+    """What stands behind the word of a line of a tree, each with its letter; of a sum of squares
+    its atoms and axes."""
+    if RULES[word].operands == 'S':
+        yield from values[0].names()
+    else:
+        yield from zip(RULES[word].kinds(len(values)), values)
+
+
+class Operands:
+    """Words that are read from the left; the first fault is told."""
+    def __init__(self, words: Sequence[str]):
+        self.words, self.at = words, 0
+
+    def word(self) -> str:
+        if self.at == len(self.words):
+            raise CertificateFault('BadLine')
+        self.at += 1
+        return self.words[self.at - 1]
+
+    def natural(self) -> int:
+        return natural(self.word())
+
+    def number(self) -> End:
+        return grid_number(self.word())
+
+    def many(self, count: int, one: Callable[[], Any]) -> List[Any]:
+        return [one() for _ in range(count)]
+
+    def squares(self) -> Squares:
+        pairs = self.many(self.natural(), lambda: (self.natural(), self.number()))
+        blocks = []
+        while self.at < len(self.words):
+            blocks.append(self.block())
+        return Squares(pairs, blocks)
+
+    def block(self) -> Block:
+        kind = self.natural()
+        if kind > 1:
+            raise CertificateFault('BadLine')
+        factor = self.natural() if kind else None
+        count = self.natural()
+        monomials = self.many(count, lambda: tuple(self.many(self.natural(), self.natural)))
+        return Block(factor, monomials, [self.many(it, self.number) for it in range(count, 0, -1)])
+
+
 # What reads a word of each kind; `none` is None.
 READERS: Dict[str, Callable[[str], Any]] = {
     **dict.fromkeys('NAXM', natural), 'D': grid_number, 'T': str,
@@ -396,7 +489,11 @@ class Lines:
             raise CertificateFault('LineTooLong')
         word, *rest = line.decode('latin-1').split(' ')
         kinds = kinds_of(word, len(rest))
-        if kinds is None or len(kinds) != len(rest) or '' in rest or not line.isascii():
+        if kinds is None or '' in rest or not line.isascii():
+            raise CertificateFault('BadLine')
+        if kinds == 'S':
+            return word, [Operands(rest).squares()]
+        if len(kinds) != len(rest):
             raise CertificateFault('BadLine')
         if kinds == 'T' and rest[0] not in DOMAINS:
             raise CertificateFault('BadLine')

@@ -10,8 +10,8 @@ LEFT = {'narrows': 1, 'marks': 1, 'parts': 2, 'ends': 0, 'stays': 0}
 
 class Rule(NamedTuple):
     """The lines of one word: their shape; a letter for each operand, A an atom, X an axis, M a
-    lemma, D a number of the grid, with `+` behind them where all of them may come again; and what
-    narrows the box, if anything does."""
+    lemma, D a number of the grid, with `+` behind them where all of them may come again, S all that
+    a sum of squares has; and what narrows or closes the box, if anything does."""
     shape: str
     operands: str = ''
     by: str = ''
@@ -36,6 +36,7 @@ RULES: Dict[str, Rule] = {
     'void': Rule('ends', 'A', 'range'),
     'voidno': Rule('ends', 'A', 'off-range'),
     'voidcomb': Rule('ends', 'AD+', 'combination'),
+    'voidpos': Rule('ends', 'S', 'squares'),
     'false': Rule('ends'),
     'by': Rule('ends', 'M'),
     'over': Rule('ends'),
@@ -69,7 +70,7 @@ VERSIONS: Dict[int, Version] = {
     2: Version(frozenset({'one check'}), ALL_NARROW, 64, False),
     3: Version(frozenset({'several checks'}), ALL_NARROW, 64, False),
     4: Version(frozenset({'least value'}), ALL_NARROW, 64, False),
-    5: Version(frozenset(BEHIND_BOUND), ALL_NARROW, 512, True),
+    5: Version(frozenset(BEHIND_BOUND), (*ALL_NARROW, 'squares'), 512, True),
 }
 
 

@@ -37,7 +37,7 @@ READER = Stage(0, WIDTH, "Reader: script to problem", """
     declared_box value_build problem_build problem_session script_reading script_forms""")
 SEARCH = Stage(0, HALF, "Search: problem to book", """
     solve_core box_worker cover_rule cover_book cover_data hc4 combine relaxation linear_program
-    floats point_search clause_search book_lock lemma_shelf steal_pool""")
+    semidefinite_program floats point_search clause_search book_lock lemma_shelf steal_pool""")
 CHECKER = Stage(RIGHT, HALF, "Checker: certificate to verdict", """
     cert_read cert_check plain_eval cert_least goal_limit""")
 WRITER = Stage(0, HALF, "Writer: book to certificate", "cert_text")
@@ -53,10 +53,10 @@ COMMANDS = [
 ]
 BELOW = Stage(0, WIDTH, "Below all of them: numbers, definitions, laws, what both ways share", """
     dyadic spelling_law interval_model ival poly_graph form_truth script_model cover_line
-    cover_model cert_model headline real_points""")
+    square_model squares cover_model cert_model headline real_points""")
 BESIDE = Stage(0, WIDTH, "Beside them: pictures, and worked rows", """
-    cover_svg sample_problems number_rows interval_trial contraction_rows reader_rows meaning_rows
-    text_rows cover_rows search_rows thread_rows""")
+    cover_svg sample_problems number_rows interval_trial square_rows programme_rows contraction_rows
+    reader_rows meaning_rows text_rows cover_rows search_rows thread_rows""")
 ROWS: List[List[Stage]] = [
     [READER], [SEARCH, CHECKER], [WRITER], [RUN], COMMANDS, [BELOW], [BESIDE]]
 # Arrows down into the row with this number.

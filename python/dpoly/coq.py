@@ -13,7 +13,7 @@ import sys
 from collections import Counter
 from copy import copy
 from fractions import Fraction
-from typing import Any, Dict, Iterator, List, NamedTuple, Optional, Sequence, Tuple
+from typing import Any, Dict, Iterable, Iterator, List, NamedTuple, Optional, Sequence, Tuple
 
 from .plain import checker  # isort: skip
 from dpoly_intervals import UNIT  # noqa: E402
@@ -23,8 +23,8 @@ from dpoly_script import Claim, Expression, Names, Problem, ScriptFault, read_ex
 
 PIECE = 200  # lines in one definition
 # What Coq calls the lines of a word; those of `false` and `unit` name a conjunct besides.
-CONSTRUCTORS = {"pull": "LPull", "push": "LPush", "comb": "LComb", "void": "LVoid", "voidno": "LVoidNo", "voidcomb": "LVoidComb", "by": "LBy",
-                "over": "LOver", "ban": "LBan", "cut": "LCut", "flip": "LFlip", "case": "LCase"}
+CONSTRUCTORS = {"pull": "LPull", "push": "LPush", "comb": "LComb", "void": "LVoid", "voidno": "LVoidNo", "voidcomb": "LVoidComb",
+                "voidpos": "LVoidPos", "by": "LBy", "over": "LOver", "ban": "LBan", "cut": "LCut", "flip": "LFlip", "case": "LCase"}
 WIDEST_BOUND = 2**32 - 1
 
 
@@ -427,11 +427,18 @@ class Follower:
                 return it + 1
         return None
 
-    def pairs(self, numbers: Sequence[int]) -> str:
+    def pairs(self, pairs: Iterable[Tuple[int, int]]) -> str:
         """The pairs of a combination. Their order is the certificate's, whatever their numbers are here."""
-        return "; ".join(f"weigh {self.atom(j)} {grid(by)}" for j, by in zip(numbers[::2], numbers[1::2]))
+        return "; ".join(f"weigh {self.atom(j)} {grid(by)}" for j, by in pairs)
 
-    def line(self, word: str, numbers: Sequence[int], state: Any, main: bool) -> Tuple[Optional[str], Optional[List[Any]]]:
+    def block(self, block: Any) -> str:
+        """A block of squares. The axes of a monomial have the certificate's order too, which nothing in Coq asks for."""
+        factor = "None" if block.factor is None else f"(Some {self.axes[block.factor]}%positive)"
+        monomials = ["[" + "; ".join(str(self.axes[axis]) for axis in it) + "]" for it in block.monomials]
+        rows = ["[" + "; ".join(f"grid {grid(number)}" for number in it) + "]" for it in block.rows]
+        return f"Block {factor} [{'; '.join(monomials)}]%positive [{'; '.join(rows)}]"
+
+    def line(self, word: str, numbers: Sequence[Any], state: Any, main: bool) -> Tuple[Optional[str], Optional[List[Any]]]:
         """A line for Coq, and the states that it leaves; None where its condition fails."""
         if main and self.cover.problem.empty:
             return "LEmpty", [] if word == "empty" else None
@@ -449,11 +456,16 @@ class Follower:
             return None, None
         return " ".join([CONSTRUCTORS[word], *self.operands(word, numbers)]), left
 
-    def operands(self, word: str, numbers: Sequence[int]) -> Iterator[str]:
+    def operands(self, word: str, numbers: Sequence[Any]) -> Iterator[str]:
         """What stands behind the constructor."""
         rule = RULES[word]
         if rule.by == "combination":
-            yield f"[{self.pairs(numbers)}]"
+            yield f"[{self.pairs(zip(numbers[::2], numbers[1::2]))}]"
+            return
+        if rule.by == "squares":
+            [squares] = numbers
+            yield f"[{self.pairs(squares.pairs)}]"
+            yield f"[{'; '.join(map(self.block, squares.blocks))}]"
             return
         for kind, number in zip(rule.kinds(len(numbers)), numbers):
             if kind == "A":
@@ -476,8 +488,7 @@ class Follower:
             rule = RULES[word]
             if rule.shape == "stays":
                 raise Refused(f"line {lines.number}: the certificate leaves a box open, so it proves nothing")
-            limits = {"A": len(self.cover.atoms), "X": len(self.cover.axes)}
-            if any(kind in limits and it >= limits[kind] for kind, it in zip(rule.kinds(len(numbers)), numbers)):
+            if not self.cover.has_all(word, numbers):
                 raise Refused(f"line {lines.number}: there is no such number")
             text, left = self.line(word, numbers, state, main)
             if text is None or left is None:

@@ -61,13 +61,16 @@ class Follower:
     def ends(self, term: int) -> Set[Need]:
         return {(side, axis) for axis in self.axes(term) for side in ("low", "high")}
 
-    def atoms_read(self, atoms: Sequence[int]) -> Set[Need]:
-        """What narrowing by atoms reads."""
+    def read_by(self, word: str, values: Sequence[Any]) -> FrozenSet[Need]:
+        """What a line reads that narrows or closes by atoms: their marks, the ends of the axes below them, and those of the axes that
+        the line names."""
         found: Set[Need] = set()
-        for it in atoms:
-            found |= self.ends(self.problem.atoms[it][0])
-            found.add(("mark", it))
-        return found
+        for kind, it in checker.named(word, values):
+            if kind == "A":
+                found |= {*self.ends(self.problem.atoms[it][0]), ("mark", it)}
+            elif kind == "X":
+                found |= {("low", it), ("high", it)}
+        return frozenset(found)
 
     def reason(self, state: Any) -> Optional[Set[Need]]:
         """A small set of what makes the form false at a state, with the conjunct that is false; None where it may be true."""
@@ -110,11 +113,13 @@ class Follower:
                 found |= {("high", axis)} if a[1] != b[1] else set()
         return frozenset(found)
 
-    def line(self, word: str, numbers: Sequence[int], text: str, state: Any, main: bool) -> Tuple[Line, List[Any]]:
+    def line(self, word: str, numbers: Sequence[Any], text: str, state: Any, main: bool) -> Tuple[Line, List[Any]]:
         """What a line reads and gives, and the states that it leaves."""
         none: FrozenSet[Need] = frozenset()
         rule, first = RULES[word], numbers[0] if numbers else 0
         if main and self.problem.empty:
+            if word != "empty":
+                raise Untrimmed(f"the condition of {word} fails")
             return Line(text, 0, (), frozenset({("low", first), ("high", first)})), []
         if word in ("false", "unit"):
             why = self.reason(state.marked(first, False) if word == "unit" else state)
@@ -130,8 +135,8 @@ class Follower:
         if left is None:
             raise Untrimmed(f"the condition of {word} fails")
         if rule.by:
-            reads = frozenset(self.atoms_read([it for kind, it in zip(rule.kinds(len(numbers)), numbers) if kind == "A"]))
-            return Line(text, len(left), tuple(self.moved(state.space, it.space) for it in left), reads), left
+            moved = tuple(self.moved(state.space, it.space) for it in left)
+            return Line(text, len(left), moved, self.read_by(word, numbers)), left
         if "M" in rule.operands:
             lemma = numbers[-1]
             given = frozenset({("mark", first)}) if rule.shape == "marks" else none

@@ -21,6 +21,17 @@ ROWS = [
     ("cover 1/lemma 0/real 0 1b0/yes 2 3/no/pull 2/void 3/tree/unit 2/unit 3/pull 2/void 3/end",
      "cover 0/tree/unit 2/unit 3/pull 2/void 3/end"),
 ]
+BOX = "".join(f"(declare-const {it} Real)(assert (<= (- 1) {it} 1))" for it in "xyz")
+SQUARES = BOX + "(assert (<= (* 2 z) 0))(assert (<= (+ (* x x) (* (- 2) x y) (* y y) 1) 0))(check-sat)"
+APART = "voidpos 1 7 1b0 0 2 1 0 1 1 1b0 -1b0 0"
+BOUNDED = f"{APART} 1 2 1 0 3b-1"  # the bound of z is a factor, and where z is at most 0 or at least 0 the rest is positive
+SQUARES_ROWS = [
+    (f"unit 6/unit 7/pull 6/{BOUNDED}", f"unit 6/unit 7/pull 6/{BOUNDED}"),
+    (f"unit 0/unit 6/unit 7/pull 6/pull 0/{BOUNDED}", f"unit 6/unit 7/pull 6/{BOUNDED}"),
+    (f"unit 6/unit 7/pull 6/{APART}", f"unit 7/{APART}"),
+    (f"cut 2 0/unit 7/{BOUNDED}/unit 7/{BOUNDED}", f"cut 2 0/unit 7/{BOUNDED}/unit 7/{BOUNDED}"),
+    (f"cut 2 0/unit 7/{APART}/unit 7/{BOUNDED}", f"unit 7/{APART}"),
+]
 LEAST = SCRIPT.replace("(check-sat)", "(minimize (* 1 x))(check-sat)")
 SEVERAL = "(declare-const x Real)(assert (<= 0 x 1))(assert (>= (* x x) 2))(check-sat)(check-sat)"
 PART = "cover 0/keep 0/tree/unit 2/void 2/end"
@@ -55,6 +66,16 @@ class Trim(unittest.TestCase):
             with self.subTest(lines):
                 self.assertEqual(found.decode(), HEAD + wanted.replace("/", "\n") + "\n")
                 self.assertEqual(plain.checker.check(SCRIPT.encode(), found), plain.checker.check(SCRIPT.encode(), certificate))
+
+    def test_squares(self):
+        from dpoly import trim
+
+        head = header(5) + "cover 0\ntree\n"
+        for lines, wanted in SQUARES_ROWS:
+            texts = [head + it.replace("/", "\n") + "\nend\n" for it in (lines, wanted)]
+            with self.subTest(lines):
+                self.assertEqual(plain.checker.check(SQUARES.encode(), texts[0].encode())[0], 0)
+                self.assertEqual(trim.trim_fully(SQUARES.encode(), texts[0].encode()).decode(), texts[1])
 
     def test_command(self):
         with tempfile.TemporaryDirectory() as folder:

@@ -10,8 +10,9 @@ use Rattle.cover_rule.specs.declared.refusal.PatchRefusal.{PatchRefusal}
 use Rattle.cover_data.specs.Models.{LemmaModel}
 use Rattle.cover_rule.specs.Models.{PatchModel}
 use Rattle.cover_rule.specs.Patch.{problem_in, loosenings_in, now_in}
-use Rattle.cover_model.specs.Rules.{Narrowing, end_by, void_by, make_false, flip, case, stuck}
-use Rattle.cover_rule.specs.Refusals.{unit_refusal, forced_by, void_refusal, false_refusal, by_refusal, covered_by, cut_refusal, cut_by, flip_refusal, case_refusal, stuck_refusal, ended_with}
+use Rattle.cover_model.specs.Combination.{Multipliers}
+use Rattle.cover_model.specs.Rules.{Block, Narrowing, end_by, void_by, void_squares, make_false, flip, case, stuck}
+use Rattle.cover_rule.specs.Refusals.{unit_refusal, forced_by, void_refusal, squares_refusal, false_refusal, by_refusal, covered_by, cut_refusal, cut_by, flip_refusal, case_refusal, stuck_refusal, ended_with}
 
 -- it was done, where nothing refuses it; else the patch is as it was
 abbrev pub Attempts : Option PatchRefusal → PatchModel → PatchModel → PatchModel → Bool → Type 0
@@ -25,6 +26,9 @@ UnitAttempt j P Q = Attempts (unit_refusal P j) P (forced_by P j) Q
 
 abbrev pub VoidAttempt : Narrowing → PatchModel → PatchModel → Bool → Type 0
 VoidAttempt n P Q = Attempts (void_refusal P n) P (ended_with P (end_by (void_by n))) Q
+
+abbrev pub SquaresAttempt : Multipliers → List Block → PatchModel → PatchModel → Bool → Type 0
+SquaresAttempt ms bs P Q = Attempts (squares_refusal P ms bs) P (ended_with P (void_squares ms bs)) Q
 
 abbrev pub FalseAttempt : PatchModel → PatchModel → Bool → Type 0
 FalseAttempt P Q = Attempts (false_refusal P) P (ended_with P make_false) Q

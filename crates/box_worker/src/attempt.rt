@@ -1,5 +1,6 @@
 // Attempts at steps and ends of a patch: what is refused leaves it as it is.
 ghost use Rattle.std.specs.Prelude.{◌≡◌, ◌<◌, length, Option, IfOk};
+ghost use Rattle.cover_line.specs.Views.{blocks_of, multipliers_of};
 ghost use Rattle.cover_model.specs.Fits.{FitsProblem};
 ghost use Rattle.cover_model.specs.State.{IsLemma};
 ghost use Rattle.cover_model.specs.Rules.{by_range};
@@ -7,10 +8,12 @@ ghost use Rattle.cover_rule.specs.declared.refusal.PatchRefusal.{PatchRefusal as
 ghost use Rattle.cover_rule.specs.Patch.{problem_in, loosenings_in};
 ghost use Rattle.cover_rule.specs.Models.{PatchModel};
 ghost use Rattle.cover_rule.specs.Narrowers.{NamesAtom, narrowing_of};
-ghost use Rattle.cover_rule.specs.Refusals.{EndAnswer, PatchAnswer};
-ghost use Rattle.box_worker.specs.Attempts.{Attempts, UnitAttempt, VoidAttempt, FalseAttempt, LemmaAttempt, CutAttempt, WidestAttempt, FlipAttempt, CaseAttempt, StuckAttempt};
+ghost use Rattle.cover_rule.specs.Refusals.{EndAnswer, PatchAnswer, TestAnswer};
+ghost use Rattle.box_worker.specs.Attempts.{Attempts, UnitAttempt, VoidAttempt, SquaresAttempt, FalseAttempt, LemmaAttempt, CutAttempt, WidestAttempt, FlipAttempt, CaseAttempt, StuckAttempt};
 
+use cover_line::Block;
 use cover_rule::{Lemma, Narrower, Patch, PatchRefusal};
+use dyadic::Dy;
 use std::alloc::AllocError;
 
 // Whether it was done. Out of memory is handed on.
@@ -20,6 +23,9 @@ fn was_done(answer: Result<(), PatchRefusal>) -> Result<bool, AllocError>
         IfOk result (Attempts refusal old done new) }
     ensures ended { (refusal : Option Refusal) (old done new : PatchModel) →
         EndAnswer refusal old done new answer →
+        IfOk result (Attempts refusal old done new) }
+    ensures tested { (first refusal : Option Refusal) (old done new : PatchModel) →
+        TestAnswer first refusal old done new answer →
         IfOk result (Attempts refusal old done new) }
 {
     match answer {
@@ -64,6 +70,20 @@ pub fn void_by(patch: &mut Patch, by: Narrower) -> Result<bool, AllocError>
     ensures { IfOk result (VoidAttempt (narrowing_of by.entry) patch.old patch.new) }
 {
     let answer = patch.void(by);
+    was_done(answer)
+}
+
+/// Ends the patch where the combination of these atoms without the blocks is above what the atoms allow, and the marks allow
+/// it.
+pub fn squares(
+    patch: &mut Patch,
+    pairs: Vec<(u32, Dy)>,
+    blocks: Vec<Block>,
+) -> Result<bool, AllocError>
+    ensures { IfOk result (SquaresAttempt (multipliers_of pairs.items) (blocks_of blocks.items)
+        patch.old patch.new) }
+{
+    let answer = patch.squares(pairs, blocks);
     was_done(answer)
 }
 

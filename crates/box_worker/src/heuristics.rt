@@ -2,6 +2,7 @@
 use crate::patience::Patience;
 use crate::scout::Scout;
 use crate::searches::Searches;
+use crate::squaring::Squaring;
 use cover_rule::Patch;
 use std::alloc::{AllocError, Global};
 use std::mem;
@@ -51,6 +52,7 @@ pub struct Heuristics {
     scout: Option<Scout>,
     pub lessons: Lessons,
     pub searches: Searches,
+    pub squaring: Squaring,
 }
 
 impl Heuristics {
@@ -60,6 +62,7 @@ impl Heuristics {
             scout: None,
             lessons: Lessons::new(),
             searches: Searches::new(),
+            squaring: Squaring::new(),
         }
     }
 

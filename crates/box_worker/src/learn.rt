@@ -59,7 +59,7 @@ pub fn teaches_nothing(kept: &KeptPatch) -> bool
     match &kept.end {
         Some(End::Close(Closing::False)) => kept.steps.is_empty(),
         Some(End::Close(Closing::By(_))) => true,
-        Some(End::Close(Closing::Void(_))) => false,
+        Some(End::Close(Closing::Void(_) | Closing::Squares(_))) => false,
         Some(End::Part(_)) => false,
         Some(End::Stuck(_)) => false,
         None => false,

@@ -13,8 +13,9 @@ ghost use Rattle.box_worker.specs.Worked.{margins_of};
 
 use crate::room::Room;
 use crate::{attempt, step};
-use cover_data::{ClosedPatch, Closing, Combination, End, KeptPatch, Narrowing, Step};
+use cover_data::{ClosedPatch, Closing, End, KeptPatch, Narrowing, Squares, Step};
 use cover_rule::{Narrower, Options, Patch, State};
+use dyadic::Dy;
 use form_truth::{Root, root_space};
 use poly_graph::{Lits, Problem};
 use std::alloc::{AllocError, Global};
@@ -32,11 +33,11 @@ fn copy_mark(from: &State, j: u32, into: &mut Lits)
     }
 }
 
-// Marks the atoms of a combination as the state marks them.
-fn copy_marks(from: &State, combination: &Combination, into: &mut Lits)
+// Marks the atoms of these pairs as the state marks them.
+fn copy_marks(from: &State, pairs: &[(u32, Dy)], into: &mut Lits)
     ensures { length into.new ≡ length into.old }
 {
-    for pair in &combination.pairs {
+    for pair in pairs {
         copy_mark(from, pair.0, into);
     }
 }
@@ -48,7 +49,7 @@ fn copy_marks_by(from: &State, narrowing: &Narrowing, into: &mut Lits)
     match narrowing {
         Narrowing::Pull(j) => copy_mark(from, *j, into),
         Narrowing::Push(j) => copy_mark(from, *j, into),
-        Narrowing::Combine(combination) => copy_marks(from, combination, into),
+        Narrowing::Combine(combination) => copy_marks(from, &combination.pairs, into),
     }
 }
 
@@ -68,6 +69,7 @@ fn copy_marks_of_end(from: &State, end: &Option<End>, into: &mut Lits)
 {
     match end {
         Some(End::Close(Closing::Void(narrowing))) => copy_marks_by(from, narrowing, into),
+        Some(End::Close(Closing::Squares(squares))) => copy_marks(from, &squares.pairs, into),
         _ => {}
     }
 }
@@ -132,33 +134,67 @@ fn repeat_steps(steps: &[Step], patch: &mut Patch) -> Result<(), AllocError>
     Ok(())
 }
 
-// Ends the patch as a run ended, where nothing is left by the same atom or combination.
-fn repeat_end(end: &Option<End>, patch: &mut Patch) -> Result<(), AllocError>
+// Ends the patch where nothing is left by the same atom or combination.
+fn void_again(narrowing: &Narrowing, patch: &mut Patch) -> Result<(), AllocError>
     ensures { IfOk result (λ u. Continues patch.old patch.new) }
 {
-    if let Some(End::Close(Closing::Void(narrowing))) = end {
-        if let Some(by) = narrower(narrowing, patch) {
-            attempt::void_by(patch, by)?;
-        }
+    if let Some(by) = narrower(narrowing, patch) {
+        attempt::void_by(patch, by)?;
     }
     Ok(())
 }
 
+// Ends the patch by the same squares, where that may be.
+fn square_again(alloc: Global, squares: &Squares, patch: &mut Patch) -> Result<(), AllocError>
+    ensures { IfOk result (λ u. Continues patch.old patch.new) }
+{
+    let Squares { pairs, blocks } = squares.try_clone(alloc)?;
+    attempt::squares(patch, pairs, blocks)?;
+    Ok(())
+}
+
+// Ends the patch as a run ended, where nothing is left by the same atom or combination, or by the same squares.
+fn repeat_end(alloc: Global, end: &Option<End>, patch: &mut Patch) -> Result<(), AllocError>
+    ensures { IfOk result (λ u. Continues patch.old patch.new) }
+{
+    match end {
+        Some(End::Close(Closing::Void(narrowing))) => void_again(narrowing, patch),
+        Some(End::Close(Closing::Squares(squares))) => square_again(alloc, squares, patch),
+        _ => Ok(()),
+    }
+}
+
 // Takes the steps by which a run narrows once more, and ends the patch as the run ended.
-fn repeat(run: &KeptPatch, patch: &mut Patch) -> Result<(), AllocError>
+fn repeat(alloc: Global, run: &KeptPatch, patch: &mut Patch) -> Result<(), AllocError>
     requires quoted { patch.old.kept.quoted ≡ [] }
     requires open { patch.old.kept.end ≡ None }
     ensures { IfOk result (λ u. Repeats patch.old patch.new) }
 {
     repeat_steps(&run.steps, patch)?;
-    repeat_end(&run.end, patch)?;
+    repeat_end(alloc, &run.end, patch)?;
     Ok(())
 }
 
-// Whether a run ended by an atom or a combination that leaves nothing, after few enough steps.
-fn is_worth(run: &KeptPatch) -> bool {
-    let leaves_nothing = matches!(run.end, Some(End::Close(Closing::Void(_))));
-    leaves_nothing && run.steps.len() <= MOST_STEPS
+// Whether a run begins at the whole root space.
+fn begins_at_root(alloc: Global, problem: &Problem, run: &KeptPatch) -> Result<bool, AllocError> {
+    let space = run.first.space();
+    match root_space(alloc, problem)? {
+        Root::Empty(_) => Ok(false),
+        Root::Space(root) => Ok(root.len() == space.len() && root.within(space)),
+    }
+}
+
+// Whether a run ended by an atom or a combination that leaves nothing, or at the whole root space by squares, which hold about
+// the middle of their box alone; and after few enough steps.
+fn is_worth(alloc: Global, problem: &Problem, run: &KeptPatch) -> Result<bool, AllocError> {
+    if run.steps.len() > MOST_STEPS {
+        return Ok(false);
+    }
+    match &run.end {
+        Some(End::Close(Closing::Void(_))) => Ok(true),
+        Some(End::Close(Closing::Squares(_))) => begins_at_root(alloc, problem, run),
+        _ => Ok(false),
+    }
 }
 
 // What a closed run of the room's problem shows where it is repeated at this state of the whole root space. None where
@@ -180,7 +216,7 @@ fn shown_at(
 {
     let margins = options.margins();
     let mut patch = room.begin(alloc, &margins, state)?;
-    repeat(run, &mut patch)?;
+    repeat(alloc, run, &mut patch)?;
     let kept = room.end(patch);
     match kept.closed() {
         Ok(closed) => Ok(Some(closed)),
@@ -202,10 +238,10 @@ fn widened(
         IfSome o (IsShownFromRoot room.old (margins_of options.now))) }
     ensures room { room.new ≡ room.old }
 {
-    if !is_worth(run) {
+    let problem = room.problem();
+    if !is_worth(alloc, problem, run)? {
         return Ok(None);
     }
-    let problem = room.problem();
     let marks = marks_in_use(alloc, problem, run)?;
     match root_with(alloc, problem, marks)? {
         Some(state) => shown_at(alloc, room, options, run, state),
@@ -232,15 +268,6 @@ fn repeated(
     let shown = widened(alloc, room, options, run)?;
     room.heuristics.lessons.note_repeat(shown.is_some());
     Ok(shown)
-}
-
-// Whether a run begins at the whole root space.
-fn begins_at_root(alloc: Global, problem: &Problem, run: &KeptPatch) -> Result<bool, AllocError> {
-    let space = run.first.space();
-    match root_space(alloc, problem)? {
-        Root::Empty(_) => Ok(false),
-        Root::Space(root) => Ok(root.len() == space.len() && root.within(space)),
-    }
 }
 
 // The closed run, where it begins at the whole root space.

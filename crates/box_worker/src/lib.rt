@@ -2,7 +2,7 @@
 //! that are lawful and honest, or finds a point in it; `lesson` says what is learned of a run that closed one. What
 //! is tried, in which order and how often is a choice that promises nothing: in `contraction` and `combining`, which take
 //! steps by which a patch stays open (`open_patch`), and in `axis`, `prospects`, `scout`, `guide`, `needs`, `common`,
-//! `fallen`, `patience`, `searches`, `worth` and `choice`. What holds of an answer is what the lines of a patch ensure.
+//! `fallen`, `patience`, `searches`, `squaring`, `worth` and `choice`. What holds of an answer is what the lines of a patch ensure.
 //! Nothing but room is kept from one box of a problem to the next (`Room`): which box is worked on, and which lemmas are
 //! at hand, is the caller's choice.
 #![tactic(auto)]
@@ -31,6 +31,7 @@ mod room;
 mod scout;
 mod searches;
 mod split;
+mod squaring;
 mod step;
 mod work;
 mod worked;

@@ -28,6 +28,7 @@ use crate::preconditions::{close_at, mark_conjuncts, void_any};
 use crate::room::Room;
 use crate::scout::{Emptied, Scout};
 use crate::split::split;
+use crate::squaring::close_by_squares;
 use crate::worked::Worked;
 use cover_rule::{KeptPatch, Lemma, MiddlePoint, Options, Patch, Point, State};
 use std::alloc::{AllocError, Global};
@@ -104,6 +105,9 @@ fn finish(
     ensures ended { IfOk result (HasEnded patch.new) }
 {
     if close_at(void, patch)? {
+        return Ok(Ended::Closed);
+    }
+    if close_by_squares(alloc, &mut heuristics.squaring, patch)? {
         return Ok(Ended::Closed);
     }
     mark_conjuncts(alloc, patch)?;

@@ -9,7 +9,7 @@ use Rattle.interval_model.specs.Space.{real_domain, bool_domain}
 use Rattle.poly_graph.specs.Problem.{Declared, real_between, any_bool, Axis, Problem, crosses}
 use Rattle.cover_line.specs.Words.{word_of}
 use Rattle.cover_model.specs.State.{State, Loosenings, root_state}
-use Rattle.cover_model.specs.Rules.{Line, narrow_by, end_by, void_by, false_form, by_lemma, mark_by, branch_by, stay_by, Left, closed, one, two, stays, when, pulled, voided, rule}
+use Rattle.cover_model.specs.Rules.{Line, narrow_by, end_by, void_by, by_squares, false_form, by_lemma, mark_by, branch_by, stay_by, Left, closed, one, two, stays, when, pulled, voided, rule}
 use Rattle.cert_read.specs.CertLine.{says_both, says_false, says_true, CertLine, version, margin, delta, bound, cover, point_word, tree_word, end_word, lemma, real_interval, real_value, bool_value, yes_list, no_list, rule_line, crossing}
 use Rattle.cert_model.specs.Due.{CertFault, BadHeader, BadNumber, Missing, WrongBound, NotShown, RuleFails, Standing, Value, at_point, left_open, Due, version_due, margin_due, delta_due, bound_due, kind_due, next_due, axis_due, yes_due, no_due, lemma_due, root_due, tree_due, coordinate_due, end_due, nothing_due, Next, on, faulty, given, is_version, same_bound, ascends, apart, all_below, names_well, after_rule, after_lemma_rule, tree_goes_on, lemma_goes_on, axis_next, coordinate_next, is_crossed_box, is_shown}
 use Rattle.cert_model.specs.Accepted.{next, loosenings_fit, ruled_line, tree_line, root_line, axis_line, coordinate_line, no_crossing, most_lemmas}
@@ -48,6 +48,7 @@ voided-agrees (Some space) = tt
 leaves : (p : Problem) (s : Loosenings) (lemmas : List State) (S : State) (l : Line) → Agrees (rule p s lemmas S l) (is_leaving l)
 leaves p s lemmas S (narrow_by n) = cond-agrees _ (pulled S _) false (pulled-agrees S _)
 leaves p s lemmas S (end_by (void_by n)) = cond-agrees _ (voided _) false (voided-agrees _)
+leaves p s lemmas S (end_by (by_squares ms bs)) = when-agrees _ closed false refl
 leaves p s lemmas S (end_by false_form) = when-agrees _ closed false refl
 leaves p s lemmas S (end_by (by_lemma i)) = when-agrees _ closed false refl
 leaves p s lemmas S (mark_by m) = when-agrees _ _ false refl

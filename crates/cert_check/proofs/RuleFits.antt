@@ -14,7 +14,7 @@ use Rattle.poly_graph.specs.ProblemViews.{Parts, problem_of}
 use Rattle.poly_graph.specs.Marks.{Mark, marked_yes, marked_no, unmarked}
 use Rattle.cover_model.specs.State.{State, Loosenings, margin_of, with_mark, with_space, may, root_state}
 use Rattle.cover_model.specs.Combination.{Expansion, expansion, allowed_range, marked_range, range_of, tightened, with_axis, with_intervals, left_of_space}
-use Rattle.cover_model.specs.Rules.{Line, narrow_by, Narrowing, by_range, by_off_range, by_combination, end_by, void_by, false_form, by_lemma, mark_by, Marking, unit_atom, ban_atom, branch_by, Branching, cut_axis, flip_axis, case_atom, stay_by, Left, closed, one, two, stays, can_narrow, narrowed_to, lemma_covers, can_mark, marked, can_branch, first_child, second_child, can_stay, with_changed, when, pulled, voided, rule}
+use Rattle.cover_model.specs.Rules.{is_void_by_squares, Line, narrow_by, Narrowing, by_range, by_off_range, by_combination, end_by, void_by, by_squares, false_form, by_lemma, mark_by, Marking, unit_atom, ban_atom, branch_by, Branching, cut_axis, flip_axis, case_atom, stay_by, Left, closed, one, two, stays, can_narrow, narrowed_to, lemma_covers, can_mark, marked, can_branch, first_child, second_child, can_stay, with_changed, when, pulled, voided, rule}
 use Rattle.cert_check.specs.States.{Fits}
 use Rattle.cert_check.specs.Waiting.{FitsLeft}
 
@@ -113,6 +113,7 @@ module _ (p : Parts) where
   pub rule_fits : (s : Loosenings) (lemmas : List State) (S : State) (l : Line) → Fits p S → FitsLeft p (rule (problem_of p) s lemmas S l)
   rule_fits s lemmas S (narrow_by n) h = cond-fits (can_narrow (problem_of p) s S n) (pulled S (narrowed_to (problem_of p) s S n)) (left-fits S (narrowed_to (problem_of p) s S n) (length-narrowed (problem_of p) s S n) h)
   rule_fits s lemmas S (end_by (void_by n)) h = cond-fits (can_narrow (problem_of p) s S n) (voided (narrowed_to (problem_of p) s S n)) (voided-fits (narrowed_to (problem_of p) s S n))
+  rule_fits s lemmas S (end_by (by_squares ms bs)) h = when-fits (is_void_by_squares (problem_of p) s S ms bs) closed tt
   rule_fits s lemmas S (end_by false_form) h = when-fits (not (may (problem_of p) s S)) closed tt
   rule_fits s lemmas S (end_by (by_lemma i)) h = when-fits (lemma_covers lemmas i S) closed tt
   rule_fits s lemmas S (mark_by m) h = when-fits (can_mark (problem_of p) s lemmas S m) (one (marked S m)) (marked-fits S m h)

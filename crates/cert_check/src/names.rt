@@ -1,16 +1,16 @@
 // What a line names.
-ghost use Rattle.std.specs.Prelude.{◌≡◌};
-ghost use Rattle.cert_model.specs.Due.{are_atoms, are_there, is_atom, is_axis, is_crossed_box, names_well, Next};
+ghost use Rattle.std.specs.Prelude.{◌≡◌, map};
+ghost use Rattle.cert_model.specs.Due.{are_all_axes, are_atoms, are_axes, are_blocks_there, are_there, is_factor_there, is_atom, is_axis, is_crossed_box, names_well, Next};
 ghost use Rattle.cover_model.specs.Views.{multipliers_of};
 ghost use Rattle.cert_model.specs.Accepted.{no_crossing};
 ghost use Rattle.poly_graph.specs.ProblemViews.{problem_of};
 ghost use Rattle.poly_graph.specs.Problem.{crosses};
 ghost use Rattle.cert_check.specs.Faults.{IsLineRefusal};
-ghost use Rattle.cover_line.specs.Views.{line_of as rule_of, narrowing_of};
+ghost use Rattle.cover_line.specs.Views.{axes_of, blocks_of, factor_of, line_of as rule_of, narrowing_of};
 ghost use Rattle.cover_line.specs.Words.{narrowing_operands};
 
 use crate::refusal::Refusal;
-use cover_line::{Branching, Ending, Marking, Narrowing, Rule, Staying, Word};
+use cover_line::{Block, Branching, Ending, Factor, Marking, Narrowing, Rule, Staying, Word};
 use dyadic::Dy;
 use poly_graph::Problem;
 
@@ -40,6 +40,53 @@ fn are_atoms(problem: &Problem, pairs: &[(u32, Dy)]) -> bool
     true
 }
 
+// Whether there are all these axes.
+fn are_axes(problem: &Problem, monomial: &[u32]) -> bool
+    ensures { result ≡ are_axes (problem_of problem.now) monomial.now }
+{
+    for i in 0..monomial.len() {
+        if !is_axis(problem, monomial[i]) {
+            return false;
+        }
+    }
+    true
+}
+
+// Whether there are the axes of all these monomials.
+fn are_all_axes(problem: &Problem, monomials: &[Vec<u32>]) -> bool
+    ensures { result ≡ are_all_axes (problem_of problem.now) (map axes_of monomials.now) }
+{
+    for i in 0..monomials.len() {
+        if !are_axes(problem, &monomials[i]) {
+            return false;
+        }
+    }
+    true
+}
+
+// Whether there is the axis of a factor, if it has one.
+fn is_factor_there(problem: &Problem, factor: Factor) -> bool
+    ensures { result ≡ is_factor_there (problem_of problem.now) (factor_of factor) }
+{
+    match factor {
+        Factor::One => true,
+        Factor::BoundOf(axis) => is_axis(problem, axis),
+    }
+}
+
+// Whether there are the axes of all these blocks.
+fn are_blocks_there(problem: &Problem, blocks: &[Block]) -> bool
+    ensures { result ≡ are_blocks_there (problem_of problem.now) (blocks_of blocks.now) }
+{
+    for i in 0..blocks.len() {
+        let block = &blocks[i];
+        if !is_factor_there(problem, block.factor) || !are_all_axes(problem, &block.monomials) {
+            return false;
+        }
+    }
+    true
+}
+
 // Whether the atoms that it narrows by are there.
 fn names_atoms(problem: &Problem, narrowing: &Narrowing) -> bool
     ensures { result ≡ are_there (problem_of problem.now)
@@ -51,13 +98,16 @@ fn names_atoms(problem: &Problem, narrowing: &Narrowing) -> bool
     }
 }
 
-/// Whether the atoms or the axis that the line names are there.
+/// Whether the atoms and axes that the line names are there.
 pub fn names_well(problem: &Problem, step: &Rule) -> bool
     ensures { result ≡ names_well (problem_of problem.now) (rule_of step.now) }
 {
     match step {
         Rule::Narrow(narrowing) => names_atoms(problem, narrowing),
         Rule::End(Ending::Void(narrowing)) => names_atoms(problem, narrowing),
+        Rule::End(Ending::Squares(pairs, blocks)) => {
+            are_atoms(problem, pairs) && are_blocks_there(problem, blocks)
+        }
         Rule::End(Ending::False | Ending::By(_)) => true,
         Rule::Mark(Marking::Unit(j) | Marking::Ban(j, _)) => is_atom(problem, *j),
         Rule::Branch(Branching::Cut(axis, _) | Branching::Flip(axis)) => is_axis(problem, *axis),

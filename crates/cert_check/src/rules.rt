@@ -15,6 +15,7 @@ use crate::lemmas::Lemmas;
 use crate::loosenings::Loosenings;
 use crate::moves::{ban, unit};
 use crate::narrowing::{emptied, narrowed};
+use crate::squares::squares;
 use crate::state::State;
 use crate::tools::Tools;
 use cover_line::{Branching, Ending, Marking, Rule, Staying};
@@ -42,6 +43,9 @@ pub fn rule(
     match step {
         Rule::Narrow(narrowing) => Ok(narrowed(problem, tools, s, state, narrowing)),
         Rule::End(Ending::Void(narrowing)) => Ok(emptied(problem, tools, s, state, narrowing)),
+        Rule::End(Ending::Squares(pairs, blocks)) => {
+            squares(alloc, problem, s, &state, pairs, blocks)
+        }
         Rule::End(Ending::False) => Ok(make_false(problem, tools, s, state)),
         Rule::End(Ending::By(i)) => by(alloc, problem, lemmas, state, *i),
         Rule::Mark(Marking::Unit(j)) => Ok(unit(problem, tools, s, state, *j)),

@@ -6,7 +6,7 @@ use Rattle.std.proofs.lemmas.Bool.Decides.{eqb_tells}
 use Rattle.std.proofs.lemmas.Fmt.{length-decimal-le}
 use Rattle.std.proofs.lemmas.List.{length-map}
 use Rattle.std.proofs.lemmas.Option.{slice_get_within}
-use Rattle.cover_model.specs.Rules.{Line, ban, narrow_by, end_by, void_by, false_form, by_lemma, mark_by, unit_atom, ban_atom, branch_by, stay_by}
+use Rattle.cover_model.specs.Rules.{Line, ban, narrow_by, end_by, void_by, by_squares, false_form, by_lemma, mark_by, unit_atom, ban_atom, branch_by, stay_by}
 use Rattle.cover_model.specs.Derivation.{Tree, tree_lines}
 use Rattle.cert_read.specs.CertLine.{CertLine, cover, tree_word, end_word, rule_line}
 use Rattle.cert_read.specs.LineText.{IsSpelled, line_text, text_of_lines}
@@ -143,6 +143,7 @@ ban-length j n = let e = length-append (decimal j) (32 ∷ decimal n) in omega (
 pub spelled_by : (f : ℕ → ℕ) → ((k : ℕ) → f k < 2 ^ 32) → (l : Line) → IsSpelled (rule_line l) → IsSpelled (rule_line (line_by f l))
 spelled_by f few (narrow_by n) h = h
 spelled_by f few (end_by (void_by n)) h = h
+spelled_by f few (end_by (by_squares ms bs)) h = h
 spelled_by f few (end_by false_form) h = h
 spelled_by f few (end_by (by_lemma i)) h = (few i, omega (arith, decimal-short (f i) (few i)))
 spelled_by f few (mark_by (unit_atom j)) h = h

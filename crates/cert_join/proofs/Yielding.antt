@@ -1,7 +1,7 @@
 -- What the trees at a place yield, by their first lines.
 use Rattle.std.proofs.Common.{◌≡◌, ℕ, List, [], ◌∷◌, ◌++◌, map, Bool, true, false, cond, refl, sym, ap, subst, ◌∙◌, append_assoc}
 use Rattle.std.specs.List.{AllByRecursion}
-use Rattle.cover_model.specs.Rules.{Line, narrow_by, end_by, void_by, false_form, by_lemma, mark_by, unit_atom, ban_atom, branch_by, stay_by}
+use Rattle.cover_model.specs.Rules.{Line, narrow_by, end_by, void_by, by_squares, false_form, by_lemma, mark_by, unit_atom, ban_atom, branch_by, stay_by}
 use Rattle.cover_model.specs.Derivation.{Tree, leaf, then, fork, tree_lines}
 use Rattle.cert_read.specs.LineText.{text_of_lines}
 use Rattle.cert_joined.specs.Joined.{Joins, none, one, ends, steps, forks, differ, first_line, going_on, leaves_at_once}
@@ -18,6 +18,7 @@ use Rattle.cert_join.proofs.Meetings.{below, second, all_below, all_second, behi
 pub arity_by : (f : ℕ → ℕ) (l : Line) → arity (line_by f l) ≡ arity l
 arity_by f (narrow_by n) = refl
 arity_by f (end_by (void_by n)) = refl
+arity_by f (end_by (by_squares ms bs)) = refl
 arity_by f (end_by false_form) = refl
 arity_by f (end_by (by_lemma i)) = refl
 arity_by f (mark_by (unit_atom j)) = refl
@@ -28,6 +29,7 @@ arity_by f (stay_by t) = refl
 pub leaves_by : (f : ℕ → ℕ) (l : Line) → leaves (line_by f l) ≡ leaves l
 leaves_by f (narrow_by n) = refl
 leaves_by f (end_by (void_by n)) = refl
+leaves_by f (end_by (by_squares ms bs)) = refl
 leaves_by f (end_by false_form) = refl
 leaves_by f (end_by (by_lemma i)) = refl
 leaves_by f (mark_by (unit_atom j)) = refl

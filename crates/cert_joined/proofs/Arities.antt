@@ -3,7 +3,7 @@ use Rattle.std.proofs.Common.{◌≡◌, List, Bool, true, false, not, cond, Opt
 use Rattle.poly_graph.specs.Problem.{Problem}
 use Rattle.interval_model.specs.Space.{Space}
 use Rattle.cover_model.specs.State.{State, Loosenings, may}
-use Rattle.cover_model.specs.Rules.{Line, narrow_by, end_by, mark_by, branch_by, stay_by, Ending, void_by, false_form, by_lemma, Left, closed, one, two, stays, rule, ending, when, pulled, voided, can_narrow, narrowed_to, can_mark, marked, can_branch, first_child, second_child, can_stay, lemma_covers}
+use Rattle.cover_model.specs.Rules.{is_void_by_squares, Line, narrow_by, end_by, mark_by, branch_by, stay_by, Ending, void_by, by_squares, false_form, by_lemma, Left, closed, one, two, stays, rule, ending, when, pulled, voided, can_narrow, narrowed_to, can_mark, marked, can_branch, first_child, second_child, can_stay, lemma_covers}
 use Rattle.cover_model.specs.Derivation.{at_closed, at_left, at_step, at_fork}
 use Rattle.cert_joined.specs.Covers.{Arity, ends, goes_on, splits, arity}
 use Rattle.cert_joined.specs.Laws.{LawfulIsShaped}
@@ -37,6 +37,7 @@ cond-has a false o h = tt
 
 ending-has : (p : Problem) (s : Loosenings) (lemmas : List State) (S : State) (e : Ending) → HasArity ends (ending p s lemmas S e)
 ending-has p s lemmas S (void_by n) = cond-has ends (can_narrow p s S n) (voided (narrowed_to p s S n)) (voided-has (narrowed_to p s S n))
+ending-has p s lemmas S (by_squares ms bs) = when-has (is_void_by_squares p s S ms bs) closed
 ending-has p s lemmas S false_form = when-has (not (may p s S)) closed
 ending-has p s lemmas S (by_lemma i) = when-has (lemma_covers lemmas i S) closed
 

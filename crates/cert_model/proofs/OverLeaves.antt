@@ -4,7 +4,7 @@ use Rattle.dyadic.specs.Rounding.{Dyadic}
 use Rattle.interval_model.specs.Space.{Space}
 use Rattle.poly_graph.specs.Problem.{Declared, real_between, any_bool, Axis, Problem, crosses}
 use Rattle.cover_model.specs.State.{State, Loosenings, root_state, may}
-use Rattle.cover_model.specs.Rules.{Line, narrow_by, end_by, void_by, false_form, by_lemma, mark_by, branch_by, stay_by, Left, closed, one, two, stays, can_narrow, narrowed_to, lemma_covers, can_mark, marked, can_branch, first_child, second_child, when, pulled, voided, rule}
+use Rattle.cover_model.specs.Rules.{is_void_by_squares, Line, narrow_by, end_by, void_by, by_squares, false_form, by_lemma, mark_by, branch_by, stay_by, Left, closed, one, two, stays, can_narrow, narrowed_to, lemma_covers, can_mark, marked, can_branch, first_child, second_child, when, pulled, voided, rule}
 use Rattle.cover_line.specs.Words.{word_of}
 use Rattle.cert_read.specs.CertLine.{CertLine, version, margin, delta, bound, cover, point_word, tree_word, end_word, lemma, real_interval, real_value, bool_value, says_both, says_false, says_true, yes_list, no_list, rule_line, crossing}
 use Rattle.cert_model.specs.Due.{CertFault, RuleFails, Standing, Value, at_point, left_open, Due, version_due, margin_due, delta_due, bound_due, kind_due, next_due, axis_due, yes_due, no_due, lemma_due, root_due, tree_due, coordinate_due, end_due, nothing_due, Next, on, faulty, is_version, same_bound, names_well, after_rule, after_lemma_rule, tree_goes_on, lemma_goes_on, axis_next, is_crossed_box, coordinate_next, is_shown}
@@ -36,6 +36,7 @@ when-goes false k h = refl
 goes-on : (p : Problem) (s : Loosenings) (lemmas : List State) (S : State) (l : Line) → leaves_open l ≡ false → is_stay (rule p s lemmas S l) ≡ false
 goes-on p s lemmas S (narrow_by n) h = pulled-goes (can_narrow p s S n) S (narrowed_to p s S n)
 goes-on p s lemmas S (end_by (void_by n)) h = voided-goes (can_narrow p s S n) (narrowed_to p s S n)
+goes-on p s lemmas S (end_by (by_squares ms bs)) h = when-goes (is_void_by_squares p s S ms bs) closed refl
 goes-on p s lemmas S (end_by false_form) h = when-goes (not (may p s S)) closed refl
 goes-on p s lemmas S (end_by (by_lemma i)) h = when-goes (lemma_covers lemmas i S) closed refl
 goes-on p s lemmas S (mark_by m) h = when-goes (can_mark p s lemmas S m) (one (marked S m)) refl

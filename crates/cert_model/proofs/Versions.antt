@@ -1,11 +1,13 @@
 -- What follows the rules in version 2 does so in version 3.
+use Rattle.square_model.specs.Positive.{is_positive}
+use Rattle.cover_model.specs.Combination.{marked_range}
 use Rattle.std.proofs.Common.{◌≡◌, ℕ, zero, suc, List, [], ◌∷◌, ◌++◌, Bool, true, false, not, ◌&&◌, ◌||◌, cond, Option, Some, None, refl, ap, ap₂, sym, ◌∙◌, nat_le}
 use Rattle.std.specs.Cmp.{both_ways}
 use Rattle.poly_graph.specs.Marks.{Mark, is_yes}
 use Rattle.poly_graph.specs.Problem.{Problem}
 use Rattle.cover_model.specs.State.{State, Loosenings, margin_of, with_no, may, misses, root_state}
-use Rattle.interval_model.specs.Space.{Space, widest, test_axis}
-use Rattle.cover_model.specs.Rules.{Line, narrow_by, Narrowing, end_by, void_by, branch_by, cut_axis, flip_axis, case_atom, stay_by, stuck_atom, Left, one, two, can_narrow, narrowed_to, has_version_2, has_version_5, pulled, voided, narrowing, is_stuck_atom, rule}
+use Rattle.interval_model.specs.Space.{middle, Space, widest, test_axis}
+use Rattle.cover_model.specs.Rules.{can_combine, closed, when, Line, narrow_by, Narrowing, end_by, void_by, by_squares, branch_by, cut_axis, flip_axis, case_atom, stay_by, stuck_atom, Left, one, two, can_narrow, narrowed_to, has_version_2, has_version_5, pulled, voided, narrowing, is_stuck_atom, rule}
 use Rattle.cover_model.specs.Honest.{is_honest, is_some_space, none_empty_from, none_below, not_shown, settled, all_in_yes, conjuncts, is_small, is_wide, is_wide_domain, may_be_cut, is_middle_at}
 use Rattle.cover_model.specs.Derivation.{Tree, leaf, then, fork, Lawful, at_closed, at_left, at_step, at_fork}
 use Rattle.cert_model.specs.Due.{Standing, left_open}
@@ -35,6 +37,7 @@ module _ (p : Problem) (s : Loosenings) (e : s.version ≡ 2) where
   pub rule_same : (lemmas : List State) (S : State) (l : Line) → rule p (in_version_3 s) lemmas S l ≡ rule p s lemmas S l
   rule_same lemmas S (narrow_by n) = ap₂ (λ (t : Bool) (o : Option Space). cond t (pulled S o) None) (lawful S n) (narrowed_in p s 3 S n)
   rule_same lemmas S (end_by (void_by n)) = ap₂ (λ (t : Bool) (o : Option Space). cond t (voided o) None) (lawful S n) (narrowed_in p s 3 S n)
+  rule_same lemmas S (end_by (by_squares ms bs)) = sym (ap (λ (t : Bool). when (t && can_combine p s S ms && is_positive p (marked_range p (margin_of s) S.marks) S.space (middle S.space) ms bs) closed) before)
   rule_same lemmas S _ = refl
 
   module _ (lemmas : List State) where

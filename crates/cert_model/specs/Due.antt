@@ -1,7 +1,8 @@
 -- Faults and values of a certificate, what is due in it, and the tests of one line.
+use Rattle.cover_line.specs.Line.{Block, bound_of, no_factor, Factor}
 use Rattle.std.specs.Prelude.{ℕ, List, [], ◌∷◌, ◌++◌, Bool, true, false, not, ◌&&◌, ◌||◌, Option, Some, None, nat_eq, nat_lt, length}
 use Rattle.dyadic.specs.Rounding.{exact}
-use Rattle.cover_line.specs.Words.{RuleWord, Operands, of_nothing, of_atom, of_lemma, of_atom_lemma, of_axis, of_axis_place, of_multipliers, operands_of}
+use Rattle.cover_line.specs.Words.{RuleWord, Operands, of_nothing, of_atom, of_lemma, of_atom_lemma, of_axis, of_axis_place, of_multipliers, of_squares, operands_of}
 use Rattle.cert_read.specs.CertLine.{BoolWord, says_false, says_true, says_both}
 use Rattle.interval_model.specs.Space.{Domain, bool_domain, Space}
 use Rattle.poly_graph.specs.Problem.{Axis, Problem, first_crossed}
@@ -120,6 +121,23 @@ abbrev pub are_atoms : Problem → Multipliers → Bool
 are_atoms p [] = true
 are_atoms p ((j, l) ∷ rest) = is_atom p j && are_atoms p rest
 
+abbrev pub are_axes : Problem → List ℕ → Bool
+are_axes p [] = true
+are_axes p (i ∷ m) = is_axis p i && are_axes p m
+
+abbrev pub are_all_axes : Problem → List (List ℕ) → Bool
+are_all_axes p [] = true
+are_all_axes p (m ∷ ms) = are_axes p m && are_all_axes p ms
+
+abbrev pub is_factor_there : Problem → Factor → Bool
+is_factor_there p no_factor = true
+is_factor_there p (bound_of i) = is_axis p i
+
+-- the axes of these blocks are there
+abbrev pub are_blocks_there : Problem → List Block → Bool
+are_blocks_there p [] = true
+are_blocks_there p (b ∷ bs) = is_factor_there p b.factor && are_all_axes p b.monomials && are_blocks_there p bs
+
 abbrev pub are_there : Problem → Operands → Bool
 are_there p of_nothing = true
 are_there p (of_atom j) = is_atom p j
@@ -128,8 +146,9 @@ are_there p (of_atom_lemma j i) = is_atom p j
 are_there p (of_axis axis) = is_axis p axis
 are_there p (of_axis_place axis c) = is_axis p axis
 are_there p (of_multipliers ms) = are_atoms p ms
+are_there p (of_squares ms bs) = are_atoms p ms && are_blocks_there p bs
 
--- the atoms or the axis that the line names are there
+-- the atoms and axes that the line names are there
 abbrev pub names_well : Problem → Line → Bool
 names_well p l = are_there p (operands_of l)
 

@@ -9,3 +9,4 @@ pub mod Parts
 pub mod Pieces
 pub mod Spelled
 mod WordSteps
+mod Takings

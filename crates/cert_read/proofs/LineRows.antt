@@ -1,7 +1,7 @@
 -- What some lines say.
 use Rattle.std.proofs.Common.{◌≡◌, [], ◌∷◌, codes, refl, pos, neg_ℤ, Some, None, map, ◌*◌, ◌^◌}
 use Rattle.cert_read.specs.Lines.{lines_of}
-use Rattle.cover_line.specs.Line.{make_false, cut, combine, void_combine}
+use Rattle.cover_line.specs.Line.{no_factor, bound_of, make_false, cut, combine, void_combine, void_squares}
 use Rattle.cert_read.specs.CertLine.{parsed, line, bad_line, bad_number, rule_line, version, margin, delta, bound, lower, over, cover, tree_word, end_word, real_interval, yes_list, no_list, bool_value, says_both}
 
 whole_certificate : map parsed (lines_of (codes "dpoly 1\nmargin 20\ndelta 10\nbound none\ncover 0\ntree\nfalse\nend\n")) ≡
@@ -27,3 +27,13 @@ combinations = refl
 lower_bounds : map parsed (lines_of (codes "lower none\nlower 1b-1\nlower -3b-2\nlower 2b-1\nlower\nlower none 0\nover\nover 0")) ≡
     (line (lower None) ∷ line (lower (Some (record { units = pos (2 ^ 119) }))) ∷ line (lower (Some (record { units = neg_ℤ (pos (3 * 2 ^ 118)) }))) ∷ bad_number ∷ bad_line ∷ bad_line ∷ line over ∷ bad_line ∷ [])
 lower_bounds = refl
+
+squares : map parsed (lines_of (codes "voidpos 1 4 1b0 0 2 1 0 1 1 1b0 -1b0 0\nvoidpos 1 4 1b0 2 1 0 1b0\nvoidpos 1 4 1b0 0 1 0 2b0\nvoidpos 0\nvoidpos\nvoidpos 1 4\nvoidpos 0 1 3 1 2 3 3 1b0")) ≡
+    (line (rule_line (void_squares ((4, record { units = pos (2 ^ 120) }) ∷ []) (record {
+      factor = no_factor;
+      monomials = (0 ∷ []) ∷ (1 ∷ []) ∷ [];
+      rows = (record { units = pos (2 ^ 120) } ∷ record { units = neg_ℤ (pos (2 ^ 120)) } ∷ []) ∷ (record { units = pos 0 } ∷ []) ∷ [];
+    } ∷ []))) ∷
+    bad_line ∷ bad_number ∷ line (rule_line (void_squares [] [])) ∷ bad_line ∷ bad_line ∷
+    line (rule_line (void_squares [] (record { factor = bound_of 3; monomials = (3 ∷ 3 ∷ []) ∷ []; rows = (record { units = pos (2 ^ 120) } ∷ []) ∷ [] } ∷ []))) ∷ [])
+squares = refl

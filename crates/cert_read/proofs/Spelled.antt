@@ -1,5 +1,5 @@
 -- A line's spelling says that line.
-use Rattle.std.proofs.Common.{◌≡◌, inl, inr, ℕ, zero, suc, ◌^◌, ◌<◌, ◌≤◌, List, [], ◌∷◌, map, Bool, true, false, not, ◌&&◌, cond, IsTrue, Option, Some, None, refl, ap, ap₂, sym, ◌∙◌, true≢false, nat_eq, nat_lt, length, get_or, codes, arith}
+use Rattle.std.proofs.Common.{◌≡◌, inl, inr, ℕ, zero, suc, ◌^◌, ◌<◌, ◌≤◌, List, [], ◌∷◌, map, Bool, true, false, not, ◌&&◌, cond, IsTrue, Option, Some, None, ◌+◌, ◌++◌, append_assoc, refl, ap, ap₂, sym, ◌∙◌, true≢false, nat_eq, nat_lt, length, get_or, codes, arith}
 use Rattle.std.specs.Prelude.{decimal}
 use Rattle.std.specs.List.{AllByRecursion}
 use Rattle.std.specs.Str.{bytes_eq, all_ascii_digits}
@@ -7,18 +7,20 @@ use Rattle.std.specs.Str.Parse.{digits_value}
 use Rattle.std.proofs.lemmas.Slice.Eq.{bytes_eq-Decides}
 use Rattle.std.proofs.lemmas.Bool.Decides.{eqb_tells, leb_tells}
 use Rattle.std.proofs.lemmas.Bool.{leb-true, le-leb}
+use Rattle.std.proofs.lemmas.List.{length-append}
 use Rattle.std.proofs.lemmas.Fmt.{digits_decimal, digits_value-decimal, first_decimal}
 use Rattle.std.proofs.lemmas.Str.Parse.{IsNumeralModel, tells_all_ascii_digits, numerals_by_value}
 use Rattle.dyadic.specs.Rounding.{Dyadic}
 use Rattle.dyadic.specs.NumberText.{number_spelling}
 use Rattle.dyadic.proofs.Equal.{both_true, both_pass}
 use Rattle.cert_read.specs.Lines.{all_bytes, is_word, are_words, words_of, is_too_long, longest_line}
-use Rattle.cover_line.specs.Line.{Multipliers, Line, pull, unit, void, push, void_no, combine, void_combine, ban, by, cut, flip, case, stuck, narrow_by, by_range, by_off_range, by_combination, end_by, void_by, false_form, by_lemma, mark_by, unit_atom, ban_atom, branch_by, cut_axis, flip_axis, case_atom, stay_by, open_state, stuck_atom}
-use Rattle.cover_line.specs.Words.{RuleWord, empty_word, pull_word, unit_word, ban_word, void_word, push_word, void_no_word, false_word, by_word, cut_word, flip_word, case_word, open_word, stuck_word, combine_word, void_combine_word, word_of, word_text, Operands, of_nothing, of_atom, of_lemma, of_atom_lemma, of_axis, of_axis_place, of_multipliers, operands_of}
-use Rattle.cert_read.specs.CertLine.{BoolWord, says_false, says_true, says_both, CertLine, version, margin, delta, bound, lower, goal, over, checks, cover, keep, point_word, tree_word, end_word, lemma, real_interval, real_value, bool_value, yes_list, no_list, rule_line, crossing, is_plain, if_below, if_plain, count_of, if_number, dyadic_of, counts_of, and_count, pairs_of, and_pair, are_paired, has_pairs, line, parsed, with_count, with_counts, with_dyadic, with_dyadics, with_both, with_list, bound_in, lower_in, paired, by_first, if_words, unless_long}
-use Rattle.cert_read.specs.LineText.{spaced, line_words, line_text, rule_words, operand_words, pair_words, bound_text, lower_text, bool_text, is_word_byte, IsCount, IsSpelledNumber, IsSpelledPair, AreSpelledPairs, AreSpelledOperands, IsSpelledRule, IsSpelledBound, IsSpelledLower, HasSpelling, IsSpelled}
+use Rattle.cover_line.specs.Line.{Multipliers, Factor, no_factor, bound_of, Block, void_squares, Line, pull, unit, void, push, void_no, combine, void_combine, ban, by, cut, flip, case, stuck, narrow_by, by_range, by_off_range, by_combination, end_by, void_by, by_squares, false_form, by_lemma, mark_by, unit_atom, ban_atom, branch_by, cut_axis, flip_axis, case_atom, stay_by, open_state, stuck_atom}
+use Rattle.cover_line.specs.Words.{of_squares, void_squares_word, RuleWord, empty_word, pull_word, unit_word, ban_word, void_word, push_word, void_no_word, false_word, by_word, cut_word, flip_word, case_word, open_word, stuck_word, combine_word, void_combine_word, word_of, word_text, Operands, of_nothing, of_atom, of_lemma, of_atom_lemma, of_axis, of_axis_place, of_multipliers, operands_of}
+use Rattle.cert_read.specs.CertLine.{BoolWord, says_false, says_true, says_both, CertLine, version, margin, delta, bound, lower, goal, over, checks, cover, keep, point_word, tree_word, end_word, lemma, real_interval, real_value, bool_value, yes_list, no_list, rule_line, crossing, is_plain, if_below, if_plain, count_of, if_number, dyadic_of, counts_of, and_count, pairs_of, and_pair, are_paired, has_pairs, line, parsed, with_count, with_counts, with_dyadic, with_dyadics, with_both, with_list, taken, taken_if, take_count, take_dyadic, take_many, take_pair, take_monomial, take_rows, take_factor, take_block, take_blocks, bound_in, lower_in, paired, by_first, if_words, unless_long}
+use Rattle.cert_read.specs.LineText.{spaced, line_words, line_text, rule_words, operand_words, pair_words, factor_words, monomial_words, row_words, block_words, bound_text, lower_text, bool_text, is_word_byte, IsCount, IsSpelledNumber, IsSpelledPair, AreSpelledPairs, IsSpelledFactor, IsSpelledMonomial, AreSpelledRows, IsSpelledBlock, AreSpelledOperands, IsSpelledRule, IsSpelledBound, IsSpelledLower, HasSpelling, IsSpelled}
 use Rattle.cert_read.proofs.Paired.{paired_line}
 use Rattle.cert_read.proofs.Pieces.{lacks, AllLack, words_of_spaced, spaced_lacks}
+use Rattle.cert_read.proofs.Takings.{first_taken, pair_on, monomial_on, factor_on, bound_on, block_on, blocks_some, blocks_none, squares_on}
 
 -- ---- plain numbers
 
@@ -115,6 +117,38 @@ pairs-clean : (ps : List (ℕ × Dyadic)) → AllByRecursion IsSpelledPair ps �
 pairs-clean [] h = tt
 pairs-clean ((j, l) ∷ ps) h = (decimal-clean j h.0.0, (number-clean l h.0.1, pairs-clean ps h.1))
 
+-- ---- the words of squares
+
+clean-both : (vs ws : List (List ℕ)) → AreCleanWords vs → AreCleanWords ws → AreCleanWords (vs ++ ws)
+clean-both [] ws h k = k
+clean-both (v ∷ vs) ws h k = (h.0, clean-both vs ws h.1 k)
+
+numbers-clean : (r : List Dyadic) → AllByRecursion IsSpelledNumber r → AreCleanWords (map number_spelling r)
+numbers-clean [] h = tt
+numbers-clean (d ∷ r) h = (number-clean d h.0, numbers-clean r h.1)
+
+factor-clean : (f : Factor) → IsSpelledFactor f → AreCleanWords (factor_words f)
+factor-clean no_factor h = (decimal-clean 0 (omega arith), tt)
+factor-clean (bound_of i) h = (decimal-clean 1 (omega arith), (decimal-clean i h, tt))
+
+monomials-clean : (ms : List (List ℕ)) → AllByRecursion IsSpelledMonomial ms → AreCleanWords (monomial_words ms)
+monomials-clean [] h = tt
+monomials-clean (m ∷ ms) h = (decimal-clean (length m) h.0.0, clean-both (map decimal m) (monomial_words ms) (decimals-clean m h.0.1) (monomials-clean ms h.1))
+
+rows-clean : (n : ℕ) (rs : List (List Dyadic)) → AreSpelledRows n rs → AreCleanWords (row_words rs)
+rows-clean zero [] h = tt
+rows-clean zero (r ∷ rs) h = absurd h
+rows-clean (suc n) [] h = absurd h
+rows-clean (suc n) (r ∷ rs) h = clean-both (map number_spelling r) (row_words rs) (numbers-clean r h.1) (rows-clean n rs h.2)
+
+blocks-clean : (bs : List Block) → AllByRecursion IsSpelledBlock bs → AreCleanWords (block_words bs)
+blocks-clean [] h = tt
+blocks-clean (b ∷ bs) h =
+    let rows = clean-both (row_words b.rows) (block_words bs) (rows-clean (length b.monomials) b.rows h.0.rows) (blocks-clean bs h.1) in
+    let monomials = clean-both (monomial_words b.monomials) (row_words b.rows ++ block_words bs) (monomials-clean b.monomials h.0.monomials) rows in
+    clean-both (factor_words b.factor) (decimal (length b.monomials) ∷ (monomial_words b.monomials ++ (row_words b.rows ++ block_words bs)))
+    (factor-clean b.factor h.0.factor) (decimal-clean (length b.monomials) h.0.count, monomials)
+
 -- of a word that stands in the text
 literal : (w : List ℕ) → IsTrue (nat_lt 0 (length w)) → IsTrue (all_bytes is_word_byte w) → IsCleanWord w
 literal w h k = record { some = leb-true 1 (length w) h; clean = k }
@@ -149,6 +183,7 @@ word-clean open_word = literal (word_text open_word) refl refl
 word-clean stuck_word = literal (word_text stuck_word) refl refl
 word-clean combine_word = literal (word_text combine_word) refl refl
 word-clean void_combine_word = literal (word_text void_combine_word) refl refl
+word-clean void_squares_word = literal (word_text void_squares_word) refl refl
 
 operands-clean : (o : Operands) → AreSpelledOperands o → AreCleanWords (operand_words o)
 operands-clean of_nothing h = tt
@@ -158,6 +193,7 @@ operands-clean (of_atom_lemma j i) h = (decimal-clean j h.0, (decimal-clean i h.
 operands-clean (of_axis axis) h = (decimal-clean axis h, tt)
 operands-clean (of_axis_place axis c) h = (decimal-clean axis h.0, (number-clean c h.1, tt))
 operands-clean (of_multipliers ps) h = pairs-clean ps h.1
+operands-clean (of_squares ms bs) h = (decimal-clean (length ms) h.0, clean-both (pair_words ms) (block_words bs) (pairs-clean ms h.1) (blocks-clean bs h.2))
 
 rule-clean : (l : Line) → IsSpelledRule l → AreCleanWords (rule_words l)
 rule-clean l h = (word-clean (word_of l), operands-clean (operands_of l) h)
@@ -229,6 +265,96 @@ spelled-some ((j, l) ∷ ps) h = words-paired ((j, l) ∷ ps)
 pairs-say : (f : Multipliers → CertLine) (ps : Multipliers) → AreSpelledPairs ps → paired f (pair_words ps) ≡ line (f ps)
 pairs-say f ps h = paired_line f (pair_words ps) (Some ps) (spelled-some ps h.0) (spelled_pairs ps h.1)
 
+-- ---- what is read from the left
+
+take-decimal : (n : ℕ) → IsCount n → (ws : List (List ℕ)) → take_count (decimal n ∷ ws) ≡ taken n ws
+take-decimal n h ws = ap (λ (o : Option ℕ). taken_if o ws) (spelled_count n h)
+
+take-number : (d : Dyadic) → IsSpelledNumber d → (ws : List (List ℕ)) → take_dyadic (number_spelling d ∷ ws) ≡ taken d ws
+take-number d h ws = ap (λ (o : Option Dyadic). taken_if o ws) (spelled-number d h)
+
+take-decimals : (js : List ℕ) → AllByRecursion IsCount js → (ws : List (List ℕ)) → take_many take_count (length js) (map decimal js ++ ws) ≡ taken js ws
+take-decimals [] h ws = refl
+take-decimals (j ∷ js) h ws =
+    let us = map decimal js ++ ws in
+    first_taken (take_count (decimal j ∷ us)) (take_many take_count (length js)) j us js ws (take-decimal j h.0 us) (take-decimals js h.1 ws)
+
+take-numbers : (r : List Dyadic) → AllByRecursion IsSpelledNumber r → (ws : List (List ℕ)) → take_many take_dyadic (length r) (map number_spelling r ++ ws) ≡ taken r ws
+take-numbers [] h ws = refl
+take-numbers (d ∷ r) h ws =
+    let us = map number_spelling r ++ ws in
+    first_taken (take_dyadic (number_spelling d ∷ us)) (take_many take_dyadic (length r)) d us r ws (take-number d h.0 us) (take-numbers r h.1 ws)
+
+take-pairs : (ps : Multipliers) → AllByRecursion IsSpelledPair ps → (ws : List (List ℕ)) → take_many take_pair (length ps) (pair_words ps ++ ws) ≡ taken ps ws
+take-pairs [] h ws = refl
+take-pairs ((j, l) ∷ ps) h ws =
+    let us = pair_words ps ++ ws in
+    let one = pair_on (decimal j ∷ number_spelling l ∷ us) (number_spelling l ∷ us) us j l (take-decimal j h.0.0 (number_spelling l ∷ us)) (take-number l h.0.1 us) in
+    first_taken (take_pair (decimal j ∷ number_spelling l ∷ us)) (take_many take_pair (length ps)) (j, l) us ps ws one (take-pairs ps h.1 ws)
+
+take-monomials : (ms : List (List ℕ)) → AllByRecursion IsSpelledMonomial ms → (ws : List (List ℕ)) → take_many take_monomial (length ms) (monomial_words ms ++ ws) ≡ taken ms ws
+take-monomials [] h ws = refl
+take-monomials (m ∷ ms) h ws =
+    let us = monomial_words ms ++ ws in
+    let vs = map decimal m ++ us in
+    let one : take_monomial (decimal (length m) ∷ vs) ≡ taken m us = monomial_on (decimal (length m) ∷ vs) vs (length m) (take-decimal (length m) h.0.0 vs) ∙ take-decimals m h.0.1 us in
+    ap (λ (xs : List (List ℕ)). take_many take_monomial (suc (length ms)) (decimal (length m) ∷ xs)) (append_assoc (map decimal m) (monomial_words ms) ws)
+    ∙ first_taken (take_monomial (decimal (length m) ∷ vs)) (take_many take_monomial (length ms)) m us ms ws one (take-monomials ms h.1 ws)
+
+take-rows : (n : ℕ) (rs : List (List Dyadic)) → AreSpelledRows n rs → (ws : List (List ℕ)) → take_rows n (row_words rs ++ ws) ≡ taken rs ws
+take-rows zero [] h ws = refl
+take-rows zero (r ∷ rs) h ws = absurd h
+take-rows (suc n) [] h ws = absurd h
+take-rows (suc n) (r ∷ rs) h ws =
+    let us = row_words rs ++ ws in
+    let vs = map number_spelling r ++ us in
+    let one : take_many take_dyadic (suc n) vs ≡ taken r us = ap (λ (k : ℕ). take_many take_dyadic k vs) (sym h.0) ∙ take-numbers r h.1 us in
+    ap (take_rows (suc n)) (append_assoc (map number_spelling r) (row_words rs) ws)
+    ∙ first_taken (take_many take_dyadic (suc n) vs) (take_rows n) r us rs ws one (take-rows n rs h.2 ws)
+
+take-the-factor : (f : Factor) → IsSpelledFactor f → (ws : List (List ℕ)) → take_factor (factor_words f ++ ws) ≡ taken f ws
+take-the-factor no_factor h ws = factor_on (decimal 0 ∷ ws) ws 0 (take-decimal 0 (omega arith) ws)
+take-the-factor (bound_of i) h ws =
+    bound_on (decimal 1 ∷ decimal i ∷ ws) (decimal i ∷ ws) ws 1 i (take-decimal 1 (omega arith) (decimal i ∷ ws)) refl (take-decimal i h ws)
+
+-- the words of a block with others behind them
+abbrev block-then : Block → List (List ℕ) → List (List ℕ)
+block-then b ws = factor_words b.factor ++ (decimal (length b.monomials) ∷ (monomial_words b.monomials ++ (row_words b.rows ++ ws)))
+
+take-the-block : (b : Block) → IsSpelledBlock b → (ws : List (List ℕ)) → take_block (block-then b ws) ≡ taken b ws
+take-the-block b h ws =
+    let rows = row_words b.rows ++ ws in
+    let monomials = monomial_words b.monomials ++ rows in
+    block_on (block-then b ws) (decimal (length b.monomials) ∷ monomials) monomials rows ws b.factor (length b.monomials) b.monomials b.rows
+    (take-the-factor b.factor h.factor (decimal (length b.monomials) ∷ monomials))
+    (take-decimal (length b.monomials) h.count monomials)
+    (take-monomials b.monomials h.monomials rows)
+    (take-rows (length b.monomials) b.rows h.rows ws)
+
+factor-some : (f : Factor) (ws : List (List ℕ)) → 0 < length (factor_words f ++ ws)
+factor-some no_factor ws = omega arith
+factor-some (bound_of i) ws = omega arith
+
+-- a block has a word of its own
+block-more : (b : Block) (ws : List (List ℕ)) → length ws < length (block-then b ws)
+block-more b ws =
+    let rows = row_words b.rows ++ ws in
+    let monomials = monomial_words b.monomials ++ rows in
+    let behind = decimal (length b.monomials) ∷ monomials in
+    let all : length (block-then b ws) ≡ length (factor_words b.factor) + length behind = length-append (factor_words b.factor) behind in
+    let first : length behind ≡ suc (length monomials) = refl in
+    let second : length monomials ≡ length (monomial_words b.monomials) + length rows = length-append (monomial_words b.monomials) rows in
+    let third : length rows ≡ length (row_words b.rows) + length ws = length-append (row_words b.rows) ws in
+    omega (arith, all, first, second, third)
+
+take-the-blocks : (n : ℕ) (bs : List Block) → AllByRecursion IsSpelledBlock bs → length (block_words bs) ≤ n → take_blocks n (block_words bs) ≡ taken bs []
+take-the-blocks n [] h l = blocks_none n
+take-the-blocks zero (b ∷ bs) h l = absurd (let m = block-more b (block_words bs) in omega (arith, l, m))
+take-the-blocks (suc n) (b ∷ bs) h l =
+    let m = block-more b (block_words bs) in
+    blocks_some n (block-then b (block_words bs)) (factor-some b.factor _)
+    ∙ first_taken (take_block (block-then b (block_words bs))) (take_blocks n) b (block_words bs) bs [] (take-the-block b h.0 (block_words bs)) (take-the-blocks n bs h.1 (omega (arith, l, m)))
+
 rule-says : (l : Line) → IsSpelledRule l → by_first (rule_words l) ≡ line (rule_line l)
 rule-says (narrow_by (by_range j)) h = one-says (λ n. rule_line (pull n)) j h
 rule-says (mark_by (unit_atom j)) h = one-says (λ n. rule_line (unit n)) j h
@@ -243,6 +369,10 @@ rule-says (branch_by (cut_axis axis c)) h = ap₂ (λ (o : Option ℕ) (q : Opti
 rule-says (branch_by (flip_axis axis)) h = one-says (λ n. rule_line (flip n)) axis h
 rule-says (narrow_by (by_combination ps)) h = pairs-say (λ ms. rule_line (combine ms)) ps h
 rule-says (end_by (void_by (by_combination ps))) h = pairs-say (λ ms. rule_line (void_combine ms)) ps h
+rule-says (end_by (by_squares ms bs)) h =
+    let blocks = block_words bs in
+    squares_on (operand_words (of_squares ms bs)) (pair_words ms ++ blocks) blocks [] (length ms) ms bs
+    (take-decimal (length ms) h.0 (pair_words ms ++ blocks)) (take-pairs ms h.1 blocks) (take-the-blocks (length blocks) bs h.2 (omega arith)) (λ ps cs. rule_line (void_squares ps cs))
 rule-says (end_by false_form) h = refl
 rule-says (stay_by open_state) h = refl
 

@@ -1,11 +1,11 @@
 -- The forms of a certificate's lines, and what the bytes of a line say.
-use Rattle.std.specs.Prelude.{ℕ, ◌^◌, List, [], ◌∷◌, Bool, true, false, cond, not, ◌&&◌, Option, Some, None, nat_eq, nat_lt, map, codes}
+use Rattle.std.specs.Prelude.{ℕ, zero, suc, ◌^◌, length, List, [], ◌∷◌, Bool, true, false, cond, not, ◌&&◌, Option, Some, None, nat_eq, nat_lt, map, codes}
 use Rattle.std.specs.Str.{bytes_eq, all_ascii_digits}
 use Rattle.std.specs.Str.Parse.{digits_value}
 use Rattle.dyadic.specs.Rounding.{Dyadic}
 use Rattle.dyadic.specs.NumberText.{NumberText, number, number_text}
-use Rattle.cover_line.specs.Line.{Multipliers, Line}
-use Rattle.cover_line.specs.Words.{Form, with_none, with_number, with_numbers, with_place, with_multipliers, empty_word, word_text, rule_forms}
+use Rattle.cover_line.specs.Line.{Multipliers, Factor, no_factor, bound_of, Block, Line}
+use Rattle.cover_line.specs.Words.{Form, with_none, with_number, with_numbers, with_place, with_multipliers, with_squares, empty_word, word_text, rule_forms}
 use Rattle.cert_read.specs.Lines.{is_too_long, are_words, words_of}
 
 -- ---- what a line says
@@ -126,6 +126,81 @@ abbrev pub has_pairs : List (List ℕ) → Bool
 has_pairs [] = false
 has_pairs ws = are_paired ws
 
+-- ---- what is read from the left
+
+-- what the first words say, and the words behind them; or the first fault
+pub data Taken (A : Type 0) : Type 0 where
+  taken : A → List (List ℕ) → Taken A
+  -- a word is due, or another number
+  ill_formed : Taken A
+  -- the word is no number of the kind that is due
+  no_number : Taken A
+
+abbrev pub and_take : {A B : Type 0} → Taken A → (A → List (List ℕ) → Taken B) → Taken B
+and_take (taken a ws) f = f a ws
+and_take ill_formed f = ill_formed
+and_take no_number f = no_number
+
+abbrev pub taken_if : {A : Type 0} → Option A → List (List ℕ) → Taken A
+taken_if (Some a) ws = taken a ws
+taken_if None ws = no_number
+
+abbrev pub take_count : List (List ℕ) → Taken ℕ
+take_count [] = ill_formed
+take_count (w ∷ ws) = taken_if (count_of w) ws
+
+abbrev pub take_dyadic : List (List ℕ) → Taken Dyadic
+take_dyadic [] = ill_formed
+take_dyadic (w ∷ ws) = taken_if (dyadic_of w) ws
+
+-- so many
+abbrev pub take_many : {A : Type 0} → (List (List ℕ) → Taken A) → ℕ → List (List ℕ) → Taken (List A)
+take_many take zero ws = taken [] ws
+take_many take (suc n) ws = and_take (take ws) (λ a vs. and_take (take_many take n vs) (λ xs us. taken (a ∷ xs) us))
+
+abbrev pub take_pair : List (List ℕ) → Taken (ℕ × Dyadic)
+take_pair ws = and_take (take_count ws) (λ j vs. and_take (take_dyadic vs) (λ l us. taken (j, l) us))
+
+-- how many axes, and the axes
+abbrev pub take_monomial : List (List ℕ) → Taken (List ℕ)
+take_monomial ws = and_take (take_count ws) (λ n vs. take_many take_count n vs)
+
+-- rows with so many numbers, one less, .. and one
+abbrev pub take_rows : ℕ → List (List ℕ) → Taken (List (List Dyadic))
+take_rows zero ws = taken [] ws
+take_rows (suc n) ws = and_take (take_many take_dyadic (suc n) ws) (λ r vs. and_take (take_rows n vs) (λ rs us. taken (r ∷ rs) us))
+
+abbrev pub factor_by : ℕ → List (List ℕ) → Taken Factor
+factor_by zero ws = taken no_factor ws
+factor_by (suc zero) ws = and_take (take_count ws) (λ i vs. taken (bound_of i) vs)
+factor_by _ ws = ill_formed
+
+-- 0, or 1 and an axis
+abbrev pub take_factor : List (List ℕ) → Taken Factor
+take_factor ws = and_take (take_count ws) (λ k vs. factor_by k vs)
+
+-- behind the factor: how many monomials, the monomials and the rows
+abbrev pub take_block_of : Factor → List (List ℕ) → Taken Block
+take_block_of f ws = and_take (take_count ws) (λ n vs. and_take (take_many take_monomial n vs) (λ ms us. and_take (take_rows n us) (λ rs ts. taken (record { factor = f; monomials = ms; rows = rs }) ts)))
+
+abbrev pub take_block : List (List ℕ) → Taken Block
+take_block ws = and_take (take_factor ws) (λ f vs. take_block_of f vs)
+
+-- all there are, no more than this
+abbrev pub take_blocks : ℕ → List (List ℕ) → Taken (List Block)
+take_blocks n [] = taken [] []
+take_blocks zero (w ∷ ws) = ill_formed
+take_blocks (suc n) (w ∷ ws) = and_take (take_block (w ∷ ws)) (λ b vs. and_take (take_blocks n vs) (λ bs us. taken (b ∷ bs) us))
+
+-- how many pairs, the pairs, and blocks up to the end
+abbrev pub take_squares : List (List ℕ) → Taken (Multipliers × List Block)
+take_squares ws = and_take (take_count ws) (λ k vs. and_take (take_many take_pair k vs) (λ ms us. and_take (take_blocks (length us) us) (λ bs ts. taken (ms, bs) ts)))
+
+abbrev pub line_taken : (Multipliers → List Block → CertLine) → Taken (Multipliers × List Block) → Parsed
+line_taken f (taken x ws) = line (f x.0 x.1)
+line_taken f ill_formed = bad_line
+line_taken f no_number = bad_number
+
 -- ---- the forms, by what stands behind the first word
 
 -- nothing
@@ -151,6 +226,10 @@ placed f ws = bad_line
 -- pairs of such numbers
 abbrev pub paired : (Multipliers → CertLine) → List (List ℕ) → Parsed
 paired f ws = cond (has_pairs ws) (with_pairs f (pairs_of ws)) bad_line
+
+-- those of a sum of squares
+abbrev pub squared : (Multipliers → List Block → CertLine) → List (List ℕ) → Parsed
+squared f ws = line_taken f (take_squares ws)
 
 -- any number of plain numbers
 abbrev pub listed : (List ℕ → CertLine) → List (List ℕ) → Parsed
@@ -200,6 +279,7 @@ ruled (with_number f) ws = counted (λ n. rule_line (f n)) ws
 ruled (with_numbers f) ws = counted_twice (λ m n. rule_line (f m n)) ws
 ruled (with_place f) ws = placed (λ n d. rule_line (f n d)) ws
 ruled (with_multipliers f) ws = paired (λ ps. rule_line (f ps)) ws
+ruled (with_squares f) ws = squared (λ ms bs. rule_line (f ms bs)) ws
 
 abbrev pub tree_forms : List (List ℕ × (List (List ℕ) → Parsed))
 tree_forms = map (λ x. (word_text x.0, ruled x.1)) rule_forms

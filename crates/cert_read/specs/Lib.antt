@@ -1,11 +1,12 @@
 pub mod CertLine
 pub mod Held
 pub mod Keywords
+pub mod LineAnswers
 pub mod LineText
 pub mod Lines
 pub mod Numbers
 pub mod Reading
 pub mod State
-pub mod LineAnswers
+pub mod Taking
 pub mod Views
 pub mod Words

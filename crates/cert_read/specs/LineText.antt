@@ -1,11 +1,11 @@
 -- The one spelling of each line, and the text of some lines.
-use Rattle.std.specs.Prelude.{◌≡◌, ℕ, ◌<◌, ◌≤◌, ◌^◌, List, [], ◌∷◌, ◌++◌, map, length, Bool, not, ◌&&◌, Option, Some, None, nat_eq, nat_lt, codes, decimal, IsTrue}
+use Rattle.std.specs.Prelude.{◌≡◌, ℕ, zero, suc, ◌<◌, ◌≤◌, ◌^◌, List, [], ◌∷◌, ◌++◌, map, length, Bool, not, ◌&&◌, Option, Some, None, nat_eq, nat_lt, codes, decimal, IsTrue}
 use Rattle.std.specs.List.{AllByRecursion}
 use Rattle.dyadic.specs.Rounding.{Dyadic}
 use Rattle.dyadic.specs.NumberText.{number, number_text, number_spelling}
 use Rattle.cert_read.specs.Lines.{all_bytes, longest_line}
-use Rattle.cover_line.specs.Line.{Multipliers, Line}
-use Rattle.cover_line.specs.Words.{empty_word, word_of, word_text, Operands, of_nothing, of_atom, of_lemma, of_atom_lemma, of_axis, of_axis_place, of_multipliers, operands_of}
+use Rattle.cover_line.specs.Line.{Multipliers, Factor, no_factor, bound_of, Block, Line}
+use Rattle.cover_line.specs.Words.{empty_word, word_of, word_text, Operands, of_nothing, of_atom, of_lemma, of_atom_lemma, of_axis, of_axis_place, of_multipliers, of_squares, operands_of}
 use Rattle.cert_read.specs.CertLine.{BoolWord, says_false, says_true, says_both, CertLine, version, margin, delta, bound, lower, goal, over, checks, cover, keep, point_word, tree_word, end_word, lemma, real_interval, real_value, bool_value, yes_list, no_list, rule_line, crossing}
 
 -- words parted by one space
@@ -37,6 +37,23 @@ abbrev pub pair_words : Multipliers → List (List ℕ)
 pair_words [] = []
 pair_words ((j, l) ∷ ps) = decimal j ∷ number_spelling l ∷ pair_words ps
 
+abbrev pub factor_words : Factor → List (List ℕ)
+factor_words no_factor = decimal 0 ∷ []
+factor_words (bound_of i) = decimal 1 ∷ decimal i ∷ []
+
+-- each with the number of its axes before it
+abbrev pub monomial_words : List (List ℕ) → List (List ℕ)
+monomial_words [] = []
+monomial_words (m ∷ ms) = decimal (length m) ∷ (map decimal m ++ monomial_words ms)
+
+abbrev pub row_words : List (List Dyadic) → List (List ℕ)
+row_words [] = []
+row_words (r ∷ rs) = map number_spelling r ++ row_words rs
+
+abbrev pub block_words : List Block → List (List ℕ)
+block_words [] = []
+block_words (b ∷ bs) = factor_words b.factor ++ (decimal (length b.monomials) ∷ (monomial_words b.monomials ++ (row_words b.rows ++ block_words bs)))
+
 abbrev pub operand_words : Operands → List (List ℕ)
 operand_words of_nothing = []
 operand_words (of_atom j) = decimal j ∷ []
@@ -45,6 +62,7 @@ operand_words (of_atom_lemma j i) = decimal j ∷ decimal i ∷ []
 operand_words (of_axis axis) = decimal axis ∷ []
 operand_words (of_axis_place axis c) = decimal axis ∷ number_spelling c ∷ []
 operand_words (of_multipliers ps) = pair_words ps
+operand_words (of_squares ms bs) = decimal (length ms) ∷ (pair_words ms ++ block_words bs)
 
 abbrev pub rule_words : Line → List (List ℕ)
 rule_words l = word_text (word_of l) ∷ operand_words (operands_of l)
@@ -95,6 +113,25 @@ IsSpelledPair (j, l) = IsCount j × IsSpelledNumber l
 abbrev pub AreSpelledPairs : Multipliers → Type 0
 AreSpelledPairs ps = (0 < length ps) × AllByRecursion IsSpelledPair ps
 
+abbrev pub IsSpelledFactor : Factor → Type 0
+IsSpelledFactor no_factor = Unit {0}
+IsSpelledFactor (bound_of i) = IsCount i
+
+abbrev pub IsSpelledMonomial : List ℕ → Type 0
+IsSpelledMonomial m = IsCount (length m) × AllByRecursion IsCount m
+
+-- rows with so many numbers, one less, .. and one
+abbrev pub AreSpelledRows : ℕ → List (List Dyadic) → Type 0
+AreSpelledRows zero [] = Unit {0}
+AreSpelledRows (suc n) (r ∷ rs) = (length r ≡ suc n) × AllByRecursion IsSpelledNumber r × AreSpelledRows n rs
+AreSpelledRows _ _ = ⊥
+
+pub record IsSpelledBlock (b : Block) : Type 0 where
+  pub factor : IsSpelledFactor b.factor
+  pub count : IsCount (length b.monomials)
+  pub monomials : AllByRecursion IsSpelledMonomial b.monomials
+  pub rows : AreSpelledRows (length b.monomials) b.rows
+
 abbrev pub AreSpelledOperands : Operands → Type 0
 AreSpelledOperands of_nothing = Unit {0}
 AreSpelledOperands (of_atom j) = IsCount j
@@ -103,6 +140,7 @@ AreSpelledOperands (of_atom_lemma j i) = IsCount j × IsCount i
 AreSpelledOperands (of_axis axis) = IsCount axis
 AreSpelledOperands (of_axis_place axis c) = IsCount axis × IsSpelledNumber c
 AreSpelledOperands (of_multipliers ps) = AreSpelledPairs ps
+AreSpelledOperands (of_squares ms bs) = IsCount (length ms) × AllByRecursion IsSpelledPair ms × AllByRecursion IsSpelledBlock bs
 
 abbrev pub IsSpelledRule : Line → Type 0
 IsSpelledRule l = AreSpelledOperands (operands_of l)

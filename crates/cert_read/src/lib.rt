@@ -8,6 +8,7 @@ mod number;
 mod parse;
 mod place;
 mod reader;
+mod squares;
 mod words;
 
 pub use fault::LineFault;

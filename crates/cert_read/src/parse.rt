@@ -14,6 +14,7 @@ ghost use Rattle.cert_read.specs.Words.{words_behind};
 use crate::keyword::{Keyword, keyword_in};
 use crate::number::{are_paired, count, counts, dyadic, pairs};
 use crate::place::cut;
+use crate::squares::squares;
 use crate::words::{Words, words_behind};
 use crate::{BoolSet, Line, LineFault};
 use cover_line::{Branching, Ending, Marking, Narrowing, NarrowingKind, Rule, Staying, Word};
@@ -116,6 +117,10 @@ fn after_rule_word(alloc: Global, word: Word, rest: Option<&[u8]>) -> Result<Lin
         Word::Void(NarrowingKind::Push) => Ok(void(Narrowing::Push(number(rest)?))),
         Word::Void(NarrowingKind::Combine) => {
             Ok(void(Narrowing::Combine(multipliers(alloc, rest)?)))
+        }
+        Word::Squares => {
+            let (pairs, blocks) = squares(alloc, rest)?;
+            Ok(Line::Rule(Rule::End(Ending::Squares(pairs, blocks))))
         }
         Word::False => alone(rest, Line::Rule(Rule::End(Ending::False))),
         Word::By => Ok(Line::Rule(Rule::End(Ending::By(number(rest)?)))),

@@ -19,7 +19,7 @@ use Rattle.cover_model.specs.Narrowed.{from_parents, own, narrowed_from, narrowe
 use Rattle.cover_model.specs.Combination.{Multipliers, Part, Expansion, part_range, tightened, with_axis, with_intervals, range_of, combined_about, allowed_range, expansion, marked_range}
 use Rattle.cover_model.specs.State.{State, Loosenings, margin_of, with_mark, may}
 use Rattle.cover_model.specs.Fits.{FitsAxis, FitsAxes, FitsProblem}
-use Rattle.cover_model.specs.Rules.{Line, narrow_by, end_by, mark_by, branch_by, stay_by, Narrowing, by_range, by_off_range, by_combination, Ending, void_by, false_form, by_lemma, Marking, unit_atom, ban_atom, Branching, cut_axis, flip_axis, case_atom, Left, closed, one, two, stays, rule, ending, when, pulled, voided, combining, can_narrow, narrowed_to, can_mark, marked, can_branch, first_child, second_child, can_stay, lemma_covers, with_changed}
+use Rattle.cover_model.specs.Rules.{is_void_by_squares, Line, narrow_by, end_by, mark_by, branch_by, stay_by, Narrowing, by_range, by_off_range, by_combination, Ending, void_by, by_squares, false_form, by_lemma, Marking, unit_atom, ban_atom, Branching, cut_axis, flip_axis, case_atom, Left, closed, one, two, stays, rule, ending, when, pulled, voided, combining, can_narrow, narrowed_to, can_mark, marked, can_branch, first_child, second_child, can_stay, lemma_covers, with_changed}
 use Rattle.cert_resumed.proofs.Parses.{all_append}
 use Rattle.cover_model.specs.Derivation.{Tree, Lawful, at_closed, at_left, at_step, at_fork}
 
@@ -258,6 +258,7 @@ module _ (p : Problem) (g : IsProblem p) (s : Loosenings) (lemmas : List State) 
 
     ending-fits : (e : Ending) → LeftFit (ending p s lemmas S e)
     ending-fits (void_by n) = by-cond (can_narrow p s S n) (voided (narrowed_to p s S n)) (voided-fit (narrowed_to p s S n))
+    ending-fits (by_squares ms bs) = by-when (is_void_by_squares p s S ms bs) closed (λ e. tt)
     ending-fits false_form = by-when (not (may p s S)) closed (λ e. tt)
     ending-fits (by_lemma i) = by-when (lemma_covers lemmas i S) closed (λ e. tt)
 

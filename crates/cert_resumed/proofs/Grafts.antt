@@ -6,7 +6,7 @@ use Rattle.std.proofs.lemmas.List.Sums.{sum_by-cons, sum_by-append}
 use Rattle.poly_graph.specs.Problem.{Problem}
 use Rattle.interval_model.specs.Space.{Space}
 use Rattle.cover_model.specs.State.{State, Loosenings, in_version, may}
-use Rattle.cover_model.specs.Rules.{Line, narrow_by, end_by, mark_by, branch_by, stay_by, Ending, void_by, false_form, by_lemma, Left, closed, one, two, stays, rule, ending, when, pulled, voided, can_narrow, narrowed_to, can_mark, marked, can_branch, first_child, second_child, can_stay, lemma_covers}
+use Rattle.cover_model.specs.Rules.{is_void_by_squares, Line, narrow_by, end_by, mark_by, branch_by, stay_by, Ending, void_by, by_squares, false_form, by_lemma, Left, closed, one, two, stays, rule, ending, when, pulled, voided, can_narrow, narrowed_to, can_mark, marked, can_branch, first_child, second_child, can_stay, lemma_covers}
 use Rattle.cover_model.specs.Honest.{is_honest, branch_count}
 use Rattle.cover_model.specs.Derivation.{Tree, leaf, then, fork, tree_lines, Lawful, at_closed, at_left, at_step, at_fork}
 use Rattle.cover_model.proofs.Later.{honest_later}
@@ -45,6 +45,7 @@ cond-goes false o h = tt
 
 ending-goes : (p : Problem) (s : Loosenings) (lemmas : List State) (S : State) (e : Ending) → Stays false (ending p s lemmas S e)
 ending-goes p s lemmas S (void_by n) = cond-goes (can_narrow p s S n) (voided (narrowed_to p s S n)) (voided-goes (narrowed_to p s S n))
+ending-goes p s lemmas S (by_squares ms bs) = when-stays (is_void_by_squares p s S ms bs) closed
 ending-goes p s lemmas S false_form = when-stays (not (may p s S)) closed
 ending-goes p s lemmas S (by_lemma i) = when-stays (lemma_covers lemmas i S) closed
 

@@ -2,7 +2,7 @@
 use Rattle.std.proofs.Common.{◌≡◌, ℕ, zero, suc, List, [], ◌∷◌, ◌++◌, Bool, true, false, ◌&&◌, cond, Option, Some, None, IsTrue, true≢false, refl, ap, ap₂, sym, ◌∙◌, subst}
 use Rattle.poly_graph.specs.Problem.{Problem}
 use Rattle.cover_model.specs.State.{State, Loosenings, undecided, with_yes}
-use Rattle.cover_model.specs.Rules.{Line, narrow_by, end_by, mark_by, branch_by, stay_by, void_by, false_form, by_lemma, Marking, unit_atom, ban_atom, make_false, Left, closed, one, two, stays, rule, when, can_mark, marked, lemma_covers}
+use Rattle.cover_model.specs.Rules.{Line, narrow_by, end_by, mark_by, branch_by, stay_by, void_by, by_squares, false_form, by_lemma, Marking, unit_atom, ban_atom, make_false, Left, closed, one, two, stays, rule, when, can_mark, marked, lemma_covers}
 use Rattle.cover_model.specs.Derivation.{Tree, Lawful, at_closed, at_left, at_step, at_fork}
 use Rattle.cert_model.specs.Due.{Standing}
 use Rattle.cert_model.specs.Written.{leaf_standing, step_standing, fork_standing, left_standing, tree_standing}
@@ -48,6 +48,7 @@ module _ (p : Problem) (s : Loosenings) where
   lemmas-same lemmas more S (mark_by m) = when-more (can_mark p s lemmas S m) (can_mark p s (lemmas ++ more) S m) (one (marked S m)) (marks-more lemmas more S m)
   lemmas-same lemmas more S (end_by (by_lemma i)) = when-more (lemma_covers lemmas i S) (lemma_covers (lemmas ++ more) i S) closed (covers-more lemmas more i S)
   lemmas-same lemmas more S (end_by (void_by n)) = same-left (rule p s lemmas S (end_by (void_by n)))
+  lemmas-same lemmas more S (end_by (by_squares ms bs)) = same-left (rule p s lemmas S (end_by (by_squares ms bs)))
   lemmas-same lemmas more S (end_by false_form) = same-left (rule p s lemmas S make_false)
   lemmas-same lemmas more S (narrow_by n) = same-left (rule p s lemmas S (narrow_by n))
   lemmas-same lemmas more S (branch_by b) = same-left (rule p s lemmas S (branch_by b))

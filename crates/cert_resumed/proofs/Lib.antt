@@ -12,6 +12,7 @@ mod Rows
 pub mod Sections
 pub mod Spelled
 pub mod SpelledNumbers
+mod SpelledSquares
 pub mod Stays
 pub mod Within
 pub mod WordsBack

@@ -10,6 +10,8 @@ pub mod Ruled
 pub mod Sessions
 pub mod SessionTexts
 pub mod Spelling
+pub mod SquareWords
 pub mod Searched
 pub mod Leftovers
 pub mod Wholes
+pub mod Words

@@ -6,7 +6,7 @@ use Rattle.std.proofs.lemmas.List.{append-nil}
 use Rattle.dyadic.specs.Rounding.{Dyadic}
 use Rattle.dyadic.specs.NumberText.{number_spelling}
 use Rattle.cover_line.specs.Line.{Multipliers, Line}
-use Rattle.cover_line.specs.Words.{RuleWord, empty_word, pull_word, unit_word, ban_word, void_word, push_word, void_no_word, false_word, by_word, cut_word, flip_word, case_word, open_word, stuck_word, combine_word, void_combine_word, word_text, word_of, Operands, of_nothing, of_atom, of_lemma, of_atom_lemma, of_axis, of_axis_place, of_multipliers, operands_of}
+use Rattle.cover_line.specs.Words.{RuleWord, empty_word, pull_word, unit_word, ban_word, void_word, push_word, void_no_word, false_word, by_word, cut_word, flip_word, case_word, open_word, stuck_word, combine_word, void_combine_word, void_squares_word, word_text, word_of, Operands, of_nothing, of_atom, of_lemma, of_atom_lemma, of_axis, of_axis_place, of_multipliers, operands_of}
 use Rattle.cert_read.specs.CertLine.{rule_line}
 use Rattle.cert_read.specs.LineText.{spaced, line_text, pair_words, operand_words, AreSpelledOperands, IsCount}
 use Rattle.cert_read.specs.Lines.{longest_line}
@@ -24,7 +24,7 @@ no_operands a = record { written = sym (append-nil a); spelled = λ k. tt; short
 one-number : (n : ℕ) (a b : List ℕ) → b ≡ a ++ (32 ∷ decimal n) → b ≡ a ++ after_spaces (decimal n ∷ [])
 one-number n a b e = e ∙ ap (λ (t : List ℕ). a ++ (32 ∷ t)) (sym (append-nil (decimal n)))
 
-one-short : (n : ℕ) → IsCount n → length (after_spaces (decimal n ∷ [])) ≤ 38912
+one-short : (n : ℕ) → IsCount n → length (after_spaces (decimal n ∷ [])) ≤ 520000
 one-short n h = omega (arith, decimal_short n h, length-append (decimal n) [])
 
 pub atom_operand : (n : ℕ) (a b : List ℕ) → IsCount n → b ≡ a ++ (32 ∷ decimal n) → HasOperands a (of_atom n) b
@@ -46,15 +46,15 @@ two_operands j i a b c h k e f = record {
 pub place_operands : (axis : ℕ) (at : Dyadic) (a b : List ℕ) → HasPairs a ((axis, at) ∷ []) b → HasOperands a (of_axis_place axis at) b
 place_operands axis at a b h = record { written = h.written; spelled = λ k. h.spelled.0; short = λ k. omega (arith, h.short) }
 
-pairs-spaced : (ps : Multipliers) → paired_off ps ≡ after_spaces (pair_words ps)
-pairs-spaced [] = refl
-pairs-spaced ((j, l) ∷ ps) = ap (λ (t : List ℕ). 32 ∷ (decimal j ++ (32 ∷ (number_spelling l ++ t)))) (pairs-spaced ps)
+pub pairs_spaced : (ps : Multipliers) → paired_off ps ≡ after_spaces (pair_words ps)
+pairs_spaced [] = refl
+pairs_spaced ((j, l) ∷ ps) = ap (λ (t : List ℕ). 32 ∷ (decimal j ++ (32 ∷ (number_spelling l ++ t)))) (pairs_spaced ps)
 
 pub multiplier_operands : (ps : Multipliers) (a b : List ℕ) → HasPairs a ps b → HasOperands a (of_multipliers ps) b
 multiplier_operands ps a b h = record {
-  written = h.written ∙ ap (λ (t : List ℕ). a ++ t) (pairs-spaced ps);
+  written = h.written ∙ ap (λ (t : List ℕ). a ++ t) (pairs_spaced ps);
   spelled = λ k. (k.0, h.spelled);
-  short = λ k. omega (arith, k.1, h.short, ap length (pairs-spaced ps));
+  short = λ k. omega (arith, k.1, h.short, ap length (pairs_spaced ps));
 }
 
 -- ---- lines
@@ -76,6 +76,7 @@ word-short open_word = omega arith
 word-short stuck_word = omega arith
 word-short combine_word = omega arith
 word-short void_combine_word = omega arith
+word-short void_squares_word = omega arith
 
 pub ruled : (w : RuleWord) (o : Operands) (a b c d : List ℕ) → b ≡ a ++ word_text w → HasOperands b o c → d ≡ c ++ (10 ∷ []) → HasRuled a w o d
 ruled w o a b c d e h f =

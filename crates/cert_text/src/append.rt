@@ -12,6 +12,7 @@ ghost use Rattle.cert_text.specs.Ruled.{HasOperands, operands_in};
 
 use crate::keyword::{Counted, Plain, counted_bytes, plain_bytes};
 use crate::operands::Operands;
+use crate::squares::append_squares;
 use cover_line::Word;
 use dyadic::{Dy, write_dy};
 use itoa::Buffer;
@@ -26,7 +27,8 @@ fn append_count(text: &mut Vec<u8>, n: u32) -> Result<(), AllocError>
     text.extend_from_slice(buffer.format(n).as_bytes())
 }
 
-fn append_number(text: &mut Vec<u8>, number: Dy) -> Result<(), AllocError>
+/// Appends a number of the grid.
+pub(crate) fn append_number(text: &mut Vec<u8>, number: Dy) -> Result<(), AllocError>
     ensures text { OnOk result (text.new.items
         ≡ text.old.items ++ number_spelling (dyadic_of number)) }
     ensures spelled { IsSpelledNumber (dyadic_of number) }
@@ -113,8 +115,8 @@ fn append_pair(text: &mut Vec<u8>, atom: u32, by: Dy) -> Result<(), AllocError>
     append_number(text, by)
 }
 
-// Atoms, each with its multiplier.
-fn append_pairs(text: &mut Vec<u8>, pairs: &[(u32, Dy)]) -> Result<(), AllocError>
+/// Appends atoms, each with its multiplier.
+pub(crate) fn append_pairs(text: &mut Vec<u8>, pairs: &[(u32, Dy)]) -> Result<(), AllocError>
     ensures { OnOk result (HasPairs text.old.items (multipliers_of pairs.now) text.new.items) }
 {
     for pair in pairs {
@@ -138,6 +140,7 @@ fn append_operands(text: &mut Vec<u8>, operands: &Operands<'_>) -> Result<(), Al
         Operands::Axis(axis) => append_word_and_count(text, "", *axis),
         Operands::AxisPlace(axis, at) => append_pair(text, *axis, *at),
         Operands::Multipliers(pairs) => append_pairs(text, pairs),
+        Operands::Squares(pairs, blocks) => append_squares(text, pairs, blocks),
     }
 }
 

@@ -16,6 +16,7 @@ mod part;
 mod parts;
 mod point;
 mod session;
+mod squares;
 mod stuck;
 mod walk;
 

@@ -1,12 +1,12 @@
 // What stands behind the first word of a tree's line.
 ghost use Rattle.std.specs.Prelude.{◌≡◌};
-ghost use Rattle.cover_line.specs.Views.{kind_word, line_of, narrowing_of, voiding_kind_word};
-ghost use Rattle.cover_line.specs.Words.{narrowing_operands, narrowing_word, operands_of, voiding_word};
+ghost use Rattle.cover_line.specs.Views.{blocks_of, kind_word, line_of, multipliers_of, narrowing_of, voiding_kind_word};
+ghost use Rattle.cover_line.specs.Words.{narrowing_operands, narrowing_word, of_squares, operands_of, voiding_word};
 ghost use Rattle.cover_data.specs.Views as kept;
 ghost use Rattle.cert_text.specs.Ruled.{HasFewPairs, operands_in};
 
-use cover_data::Narrowing as Kept;
-use cover_line::{Branching, Ending, Marking, Narrowing, NarrowingKind, Rule, Staying};
+use cover_data::{Narrowing as Kept, Squares};
+use cover_line::{Block, Branching, Ending, Marking, Narrowing, NarrowingKind, Rule, Staying};
 use dyadic::Dy;
 
 /// What stands behind the first word of a tree's line. Numbers are those of atoms, lemmas and axes.
@@ -20,6 +20,8 @@ pub(crate) enum Operands<'a> {
     AxisPlace(u32, Dy),
     /// Atoms, each with its multiplier.
     Multipliers(&'a [(u32, Dy)]),
+    /// Atoms, each with its multiplier, and blocks of squares.
+    Squares(&'a [(u32, Dy)], &'a [Block]),
 }
 
 fn of_narrowing(narrowing: &Narrowing) -> Operands<'_>
@@ -39,6 +41,7 @@ pub(crate) fn of_rule(rule: &Rule) -> Operands<'_>
     match rule {
         Rule::Narrow(narrowing) => of_narrowing(narrowing),
         Rule::End(Ending::Void(narrowing)) => of_narrowing(narrowing),
+        Rule::End(Ending::Squares(pairs, blocks)) => Operands::Squares(pairs, blocks),
         Rule::End(Ending::False) => Operands::Nothing,
         Rule::End(Ending::By(lemma)) => Operands::Lemma(*lemma),
         Rule::Mark(Marking::Unit(atom)) => Operands::Atom(*atom),
@@ -62,6 +65,15 @@ pub(crate) fn of_kept(narrowing: &Kept) -> Operands<'_>
         Kept::Push(atom) => Operands::Atom(*atom),
         Kept::Combine(combination) => Operands::Multipliers(&combination.pairs),
     }
+}
+
+/// Those of squares that a book keeps.
+pub(crate) fn of_kept_squares(squares: &Squares) -> Operands<'_>
+    ensures operands { operands_in result
+        ≡ of_squares (multipliers_of squares.now.pairs.items) (blocks_of squares.now.blocks.items) }
+    ensures few { HasFewPairs (operands_in result) }
+{
+    Operands::Squares(&squares.pairs, &squares.blocks)
 }
 
 /// What it narrows by.

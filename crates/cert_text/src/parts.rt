@@ -17,7 +17,7 @@ use crate::append::{
 };
 use crate::keyword::{Counted, Plain};
 use crate::line::append_short_rule;
-use crate::operands::{kind_of, of_kept};
+use crate::operands::{kind_of, of_kept, of_kept_squares};
 use cover_book::{Learned, Lines};
 use cover_data::{Closing, End, Options, State, Step};
 use cover_line::{Ending, Rule, Staying, Word};
@@ -102,6 +102,9 @@ fn append_closing(text: &mut Vec<u8>, closing: &Closing) -> Result<(), AllocErro
             Word::Void(kind_of(narrowing)),
             &of_kept(narrowing),
         ),
+        Closing::Squares(squares) => {
+            append_ruled(text, Word::Squares, &of_kept_squares(squares))
+        }
         Closing::False => append_short_rule(text, &Rule::End(Ending::False)),
         Closing::By(lemma) => append_short_rule(text, &Rule::End(Ending::By(*lemma))),
     }

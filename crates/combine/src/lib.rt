@@ -26,3 +26,4 @@ mod tighten;
 pub use combination::Combination;
 pub use combining::combine;
 pub use room::Room;
+pub use roots::marked_range;

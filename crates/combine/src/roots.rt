@@ -56,8 +56,8 @@ fn kind_off_range(kind: Kind, loosen: u32) -> Ival
     Ival::new(low, high)
 }
 
-// Where the value of atom j's term lies, by the atom's mark.
-fn marked_range(combination: &Combination<'_>, j: u32) -> Ival
+/// Where the value of atom j's term lies, by the atom's mark.
+pub fn marked_range(combination: &Combination<'_>, j: u32) -> Ival
     requires loosen { combination.now.loosen ≤ 120 }
     requires atom { j < length combination.now.problem.now.atoms }
     requires lits { length combination.now.lits.now ≡ length combination.now.problem.now.atoms }

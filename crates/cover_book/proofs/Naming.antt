@@ -11,7 +11,7 @@ use Rattle.cover_model.specs.Space.{IsGridSpace}
 use Rattle.poly_graph.specs.Problem.{Declared, real_between, any_bool, Axis, Problem, IsProblem, atom_at}
 use Rattle.poly_graph.specs.Marks.{Mark, is_yes, is_no, mark_at, undecided_in, marked_yes, marked_no}
 use Rattle.cover_model.specs.State.{State, Loosenings, in_yes, in_no, undecided, with_space}
-use Rattle.cover_model.specs.Rules.{Line, narrow_by, end_by, mark_by, branch_by, stay_by, Narrowing, by_range, by_off_range, by_combination, void_by, false_form, by_lemma, Marking, unit_atom, ban_atom, Branching, cut_axis, flip_axis, case_atom, open_state, stuck_atom, Left, closed, one, stays, rule, when, pulled, voided, can_narrow, narrowed_to, has_version_2, is_one_sided, in_no_one_sided, can_push, is_combination, are_combinable, can_combine, can_mark, marked, can_branch, is_stuck_atom}
+use Rattle.cover_model.specs.Rules.{Line, narrow_by, end_by, mark_by, branch_by, stay_by, Narrowing, by_range, by_off_range, by_combination, void_by, by_squares, false_form, by_lemma, Marking, unit_atom, ban_atom, Branching, cut_axis, flip_axis, case_atom, open_state, stuck_atom, Left, closed, one, stays, rule, when, pulled, voided, can_narrow, narrowed_to, has_version_2, is_one_sided, in_no_one_sided, can_push, is_combination, are_combinable, can_combine, can_mark, marked, can_branch, is_stuck_atom}
 use Rattle.cover_model.specs.Honest.{is_honest, not_shown, settled, is_small, none_below}
 use Rattle.cover_model.specs.Fits.{FitsAxis, FitsAxes, FitsProblem}
 use Rattle.cover_model.proofs.Stuck.{some_atom_is_stuck}
@@ -154,6 +154,7 @@ module _ (p : Problem) (g : IsProblem p) (m : Margins) (lemmas : List State) whe
       ((narrowing-names S h n k.0).0, ap length (pulled-keeps S S' (narrowed_to p s S n) k.1) ∙ h)
   step-names S S' (mark_by x) h e = let k = marking-names S h x (when-true _ _ _ e) in (k.0, subst HasMarks (sym (only-one _ (marked S x) S' e)) k.1)
   step-names S S' (end_by (void_by n)) h e = let k = cond-true (can_narrow p s S n) (voided (narrowed_to p s S n)) (one S') e in no_void (narrowed_to p s S n) k.1
+  step-names S S' (end_by (by_squares ms bs)) h e = no_when _ closed S' e (λ q. cc)
   step-names S S' (end_by false_form) h e = no_when _ closed S' e (λ q. cc)
   step-names S S' (end_by (by_lemma i)) h e = no_when _ closed S' e (λ q. cc)
   step-names S S' (branch_by b) h e = no_when _ _ S' e (λ q. cc)

@@ -5,7 +5,7 @@ use Rattle.interval_model.specs.Space.{Space, space_within}
 use Rattle.poly_graph.specs.Problem.{Problem}
 use Rattle.cover_model.specs.State.{State, Loosenings, may, covers}
 use Rattle.poly_graph.specs.Marks.{marks_within}
-use Rattle.cover_model.specs.Rules.{Line, narrow_by, end_by, mark_by, branch_by, stay_by, Ending, void_by, false_form, by_lemma, stuck, Left, closed, one, two, stays, can_narrow, narrowed_to, can_branch, first_child, second_child, lemma_covers, when, voided, ending, is_stuck_atom, rule}
+use Rattle.cover_model.specs.Rules.{is_void_by_squares, Line, narrow_by, end_by, mark_by, branch_by, stay_by, Ending, void_by, by_squares, false_form, by_lemma, stuck, Left, closed, one, two, stays, can_narrow, narrowed_to, can_branch, first_child, second_child, lemma_covers, when, voided, ending, is_stuck_atom, rule}
 use Rattle.cover_model.specs.Derivation.{Tree, Lawful, at_step}
 use Rattle.cover_model.proofs.Within.{space_reflexive, space_through}
 use Rattle.poly_graph.proofs.Marks.{marks_reflexive, marks_through}
@@ -51,6 +51,7 @@ both-of (Some (a, b)) = two a b
 module _ (p : Problem) (s : Loosenings) (lemmas : List State) (S : State) where
   ending-closes : (e : Ending) → IsEnding (ending p s lemmas S e) → ending p s lemmas S e ≡ Some closed
   ending-closes (void_by n) h = ends-void (can_narrow p s S n) (narrowed_to p s S n) h
+  ending-closes (by_squares ms bs) h = ends-when (is_void_by_squares p s S ms bs) closed h
   ending-closes false_form h = ends-when (not (may p s S)) closed h
   ending-closes (by_lemma i) h = ends-when (lemma_covers lemmas i S) closed h
 

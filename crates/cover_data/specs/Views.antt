@@ -1,6 +1,6 @@
 -- The code's steps, ends and kept patches as the definitions see them.
 use Rattle.std.specs.Prelude.{Option, Some, None, map}
-use Rattle.cover_line.specs.Views.{marking_of, branching_of}
+use Rattle.cover_line.specs.Views.{blocks_of, marking_of, branching_of}
 use Rattle.cover_data.specs.declared.step.Narrowing.{Narrowing as CodeNarrowing}
 use Rattle.cover_data.specs.declared.step.Narrowing.TheVariants as narrowing
 use Rattle.cover_data.specs.declared.step.Step.{Step}
@@ -10,7 +10,7 @@ use Rattle.cover_data.specs.declared.step.Closing.TheVariants as closing
 use Rattle.cover_data.specs.declared.step.End.{End}
 use Rattle.cover_data.specs.declared.step.End.TheVariants as ends
 use Rattle.cover_data.specs.declared.kept.KeptPatch.{KeptPatch}
-use Rattle.cover_model.specs.Rules.{Line, narrow_by, end_by, mark_by, branch_by, Narrowing, by_range, by_off_range, by_combination, Ending, void_by, false_form, by_lemma, stuck}
+use Rattle.cover_model.specs.Rules.{Line, narrow_by, end_by, mark_by, branch_by, Narrowing, by_range, by_off_range, by_combination, Ending, void_by, by_squares, false_form, by_lemma, stuck}
 use Rattle.cover_model.specs.Views.{multipliers_of}
 use Rattle.cover_data.specs.Models.{KeptModel}
 
@@ -21,6 +21,7 @@ narrowing_of (narrowing.Combine c) = by_combination (multipliers_of c.pairs.item
 
 abbrev pub closing_of : Closing → Ending
 closing_of (closing.Void n) = void_by (narrowing_of n)
+closing_of (closing.Squares s) = by_squares (multipliers_of s.pairs.items) (blocks_of s.blocks.items)
 closing_of closing.False = false_form
 closing_of (closing.By i) = by_lemma i
 

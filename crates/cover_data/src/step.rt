@@ -3,6 +3,7 @@ ghost use Rattle.std.specs.Prelude.{◌≡◌, IfOk};
 ghost use Rattle.cover_data.specs.Views.{closing_of, end_line, narrowing_of, step_line};
 
 use crate::combination::Combination;
+use crate::squares::Squares;
 use cover_line::{Branching, Marking};
 use std::alloc::{AllocError, Global};
 
@@ -58,6 +59,8 @@ impl Step {
 pub enum Closing {
     /// The narrowing leaves nothing.
     Void(Narrowing),
+    /// A combination less sums of squares is above what its atoms allow.
+    Squares(Squares),
     /// The form may not hold.
     False,
     /// The lemma of this number covers the state.
@@ -71,6 +74,7 @@ impl Closing {
     {
         match self {
             Closing::Void(narrowing) => Ok(Closing::Void(narrowing.try_clone(alloc)?)),
+            Closing::Squares(squares) => Ok(Closing::Squares(squares.try_clone(alloc)?)),
             Closing::False => Ok(Closing::False),
             Closing::By(i) => Ok(Closing::By(*i)),
         }

@@ -6,6 +6,21 @@ use Rattle.dyadic.specs.Rounding.{Dyadic}
 abbrev pub Multipliers : Type 0
 Multipliers = List (ℕ × Dyadic)
 
+-- ---- squares
+
+-- what the squares of a block are times
+pub data Factor : Type 0 where
+  no_factor : Factor
+  -- h - d^2, where d is the difference of this axis to the centre and h the greatest of d^2
+  bound_of : ℕ → Factor
+
+-- The squares of polynomials over these monomials, each a list of axes, one for each factor: row k has the coefficients of the
+-- k-th polynomial, of the k-th monomial and those after it.
+pub record Block : Type 0 where
+  pub factor : Factor
+  pub monomials : List (List ℕ)
+  pub rows : List (List Dyadic)
+
 -- ---- shapes
 
 -- what makes the box smaller: the range of an atom, the off-range of one that fails, a combination of atoms
@@ -13,9 +28,11 @@ pub data Narrowing : Type 0 where
   by_range by_off_range : ℕ → Narrowing
   by_combination : Multipliers → Narrowing
 
--- what closes the state: a narrowing leaves nothing, the form may not hold, a lemma covers it
+-- what closes the state: a narrowing leaves nothing, a combination less sums of squares is above what its atoms allow, the form may
+-- not hold, a lemma covers it
 pub data Ending : Type 0 where
   void_by : Narrowing → Ending
+  by_squares : Multipliers → List Block → Ending
   false_form : Ending
   by_lemma : ℕ → Ending
 
@@ -60,6 +77,9 @@ void_no j = end_by (void_by (by_off_range j))
 
 abbrev pub void_combine : Multipliers → Line
 void_combine ms = end_by (void_by (by_combination ms))
+
+abbrev pub void_squares : Multipliers → List Block → Line
+void_squares ms bs = end_by (by_squares ms bs)
 
 abbrev pub make_false : Line
 make_false = end_by false_form

@@ -1,8 +1,13 @@
 -- The code's rules and words as the definitions see them.
-use Rattle.std.specs.Prelude.{ℕ, List, map}
+use Rattle.std.specs.Prelude.{ℕ, List, Vec, map}
+use Rattle.std.specs.declared.alloc.Global.{Global}
+use Rattle.dyadic.specs.Rounding.{Dyadic}
 use Rattle.dyadic.specs.declared.dy.Dy.{Dy}
 use Rattle.dyadic.specs.Views.{dyadic_of}
-use Rattle.cover_line.specs.Line.{Multipliers, Narrowing, by_range, by_off_range, by_combination, Ending, void_by, false_form, by_lemma, Marking, unit_atom, ban_atom, Branching, cut_axis, flip_axis, case_atom, Staying, open_state, stuck_atom, Line, narrow_by, end_by, mark_by, branch_by, stay_by}
+use Rattle.cover_line.specs.Line.{Multipliers, Factor, no_factor, bound_of, Block, Narrowing, by_range, by_off_range, by_combination, Ending, void_by, by_squares, false_form, by_lemma, Marking, unit_atom, ban_atom, Branching, cut_axis, flip_axis, case_atom, Staying, open_state, stuck_atom, Line, narrow_by, end_by, mark_by, branch_by, stay_by}
+use Rattle.cover_line.specs.declared.block.Factor.{Factor as CodeFactor}
+use Rattle.cover_line.specs.declared.block.Factor.TheVariants as factor
+use Rattle.cover_line.specs.declared.block.Block.{Block as CodeBlock}
 use Rattle.cover_line.specs.declared.rule.Narrowing.{Narrowing as CodeNarrowing}
 use Rattle.cover_line.specs.declared.rule.Narrowing.TheVariants as narrowing
 use Rattle.cover_line.specs.declared.rule.Ending.{Ending as CodeEnding}
@@ -19,11 +24,31 @@ use Rattle.cover_line.specs.declared.word.NarrowingKind.{NarrowingKind}
 use Rattle.cover_line.specs.declared.word.NarrowingKind.TheVariants as kind
 use Rattle.cover_line.specs.declared.word.Word.{Word}
 use Rattle.cover_line.specs.declared.word.Word.TheVariants as word
-use Rattle.cover_line.specs.Words.{RuleWord, pull_word, push_word, combine_word, void_word, void_no_word, void_combine_word, false_word, by_word, unit_word, ban_word, cut_word, flip_word, case_word, open_word, stuck_word, empty_word}
+use Rattle.cover_line.specs.Words.{RuleWord, pull_word, push_word, combine_word, void_word, void_no_word, void_combine_word, void_squares_word, false_word, by_word, unit_word, ban_word, cut_word, flip_word, case_word, open_word, stuck_word, empty_word}
 
 -- a rule's pairs of an atom and its multiplier
 abbrev pub multipliers_of : List (ℕ × Dy) → Multipliers
 multipliers_of pairs = map (λ x. (x.0, dyadic_of x.1)) pairs
+
+-- ---- squares
+
+abbrev pub factor_of : CodeFactor → Factor
+factor_of factor.One = no_factor
+factor_of (factor.BoundOf axis) = bound_of axis
+
+abbrev pub axes_of : Vec ℕ Global → List ℕ
+axes_of v = v.items
+
+abbrev pub numbers_of : Vec Dy Global → List Dyadic
+numbers_of v = map dyadic_of v.items
+
+abbrev pub block_of : CodeBlock → Block
+block_of b = record { factor = factor_of b.factor; monomials = map axes_of b.monomials.items; rows = map numbers_of b.rows.items }
+
+abbrev pub blocks_of : List CodeBlock → List Block
+blocks_of bs = map block_of bs
+
+-- ---- rules
 
 abbrev pub narrowing_of : CodeNarrowing → Narrowing
 narrowing_of (narrowing.Pull j) = by_range j
@@ -32,6 +57,7 @@ narrowing_of (narrowing.Combine pairs) = by_combination (multipliers_of pairs.it
 
 abbrev pub ending_of : CodeEnding → Ending
 ending_of (ending.Void n) = void_by (narrowing_of n)
+ending_of (ending.Squares pairs blocks) = by_squares (multipliers_of pairs.items) (blocks_of blocks.items)
 ending_of ending.False = false_form
 ending_of (ending.By i) = by_lemma i
 
@@ -71,6 +97,7 @@ voiding_kind_word kind.Combine = void_combine_word
 abbrev pub rule_word : Word → RuleWord
 rule_word (word.Narrow k) = kind_word k
 rule_word (word.Void k) = voiding_kind_word k
+rule_word word.Squares = void_squares_word
 rule_word word.False = false_word
 rule_word word.By = by_word
 rule_word word.Unit = unit_word

@@ -1,13 +1,13 @@
 -- The lines of a cover as data: the first word of each, what stands behind it, and the lines that each word leads.
 use Rattle.std.specs.Prelude.{ℕ, List, [], ◌∷◌, codes}
 use Rattle.dyadic.specs.Rounding.{Dyadic}
-use Rattle.cover_line.specs.Line.{Multipliers, Narrowing, by_range, by_off_range, by_combination, Ending, void_by, false_form, by_lemma, Marking, unit_atom, ban_atom, Branching, cut_axis, flip_axis, case_atom, Staying, open_state, stuck_atom, Line, narrow_by, end_by, mark_by, branch_by, stay_by, pull, unit, void, push, void_no, combine, void_combine, ban, make_false, by, cut, flip, case, open_line, stuck}
+use Rattle.cover_line.specs.Line.{Multipliers, Block, Narrowing, by_range, by_off_range, by_combination, Ending, void_by, by_squares, false_form, by_lemma, Marking, unit_atom, ban_atom, Branching, cut_axis, flip_axis, case_atom, Staying, open_state, stuck_atom, Line, narrow_by, end_by, mark_by, branch_by, stay_by, pull, unit, void, push, void_no, combine, void_combine, void_squares, ban, make_false, by, cut, flip, case, open_line, stuck}
 
 -- ---- first words
 
 -- the first words of a tree's lines; `empty` leads the line for crossed bounds, which is no rule
 pub data RuleWord : Type 0 where
-  empty_word pull_word unit_word ban_word void_word push_word void_no_word false_word by_word cut_word flip_word case_word open_word stuck_word combine_word void_combine_word : RuleWord
+  empty_word pull_word unit_word ban_word void_word push_word void_no_word false_word by_word cut_word flip_word case_word open_word stuck_word combine_word void_combine_word void_squares_word : RuleWord
 
 abbrev pub narrowing_word : Narrowing → RuleWord
 narrowing_word (by_range j) = pull_word
@@ -22,6 +22,7 @@ voiding_word (by_combination ms) = void_combine_word
 
 abbrev pub ending_word : Ending → RuleWord
 ending_word (void_by n) = voiding_word n
+ending_word (by_squares ms bs) = void_squares_word
 ending_word false_form = false_word
 ending_word (by_lemma i) = by_word
 
@@ -63,6 +64,7 @@ word_text open_word = codes "open"
 word_text stuck_word = codes "stuck"
 word_text combine_word = codes "comb"
 word_text void_combine_word = codes "voidcomb"
+word_text void_squares_word = codes "voidpos"
 
 -- ---- operands
 
@@ -75,6 +77,7 @@ pub data Operands : Type 0 where
   of_axis : ℕ → Operands
   of_axis_place : ℕ → Dyadic → Operands
   of_multipliers : Multipliers → Operands
+  of_squares : Multipliers → List Block → Operands
 
 abbrev pub narrowing_operands : Narrowing → Operands
 narrowing_operands (by_range j) = of_atom j
@@ -83,6 +86,7 @@ narrowing_operands (by_combination ms) = of_multipliers ms
 
 abbrev pub ending_operands : Ending → Operands
 ending_operands (void_by n) = narrowing_operands n
+ending_operands (by_squares ms bs) = of_squares ms bs
 ending_operands false_form = of_nothing
 ending_operands (by_lemma i) = of_lemma i
 
@@ -113,10 +117,11 @@ pub data Form : Type 0 where
   with_numbers : (ℕ → ℕ → Line) → Form
   with_place : (ℕ → Dyadic → Line) → Form
   with_multipliers : (Multipliers → Line) → Form
+  with_squares : (Multipliers → List Block → Line) → Form
 
 -- each rule's word with its lines
 abbrev pub rule_forms : List (RuleWord × Form)
 rule_forms =
     (pull_word, with_number pull) ∷ (unit_word, with_number unit) ∷ (void_word, with_number void) ∷ (push_word, with_number push) ∷ (void_no_word, with_number void_no) ∷
     (case_word, with_number case) ∷ (stuck_word, with_number stuck) ∷ (by_word, with_number by) ∷ (ban_word, with_numbers ban) ∷ (cut_word, with_place cut) ∷ (flip_word, with_number flip) ∷
-    (combine_word, with_multipliers combine) ∷ (void_combine_word, with_multipliers void_combine) ∷ (false_word, with_none make_false) ∷ (open_word, with_none open_line) ∷ []
+    (combine_word, with_multipliers combine) ∷ (void_combine_word, with_multipliers void_combine) ∷ (void_squares_word, with_squares void_squares) ∷ (false_word, with_none make_false) ∷ (open_word, with_none open_line) ∷ []

@@ -5,8 +5,10 @@
 //! more variant of its group. What a rule asks of a state and leaves of it is said in `cover_model`.
 #![tactic(auto)]
 
+mod block;
 mod rule;
 mod word;
 
+pub use block::{Block, Factor};
 pub use rule::{Branching, Ending, Marking, Narrowing, Rule, Staying};
 pub use word::{NarrowingKind, Word};

@@ -4,6 +4,7 @@ ghost use Rattle.cover_line.specs.Views.{ending_of, line_of, narrowing_of, rule_
 ghost use Rattle.cover_line.specs.Words.{ending_word, narrowing_word, voiding_word, word_of};
 ghost use Rattle.cover_line.specs.declared.word.Word.TheVariants as word;
 
+use crate::block::Block;
 use crate::word::{NarrowingKind, Word};
 use dyadic::Dy;
 
@@ -37,6 +38,8 @@ impl Narrowing {
 pub enum Ending {
     /// The narrowing leaves nothing.
     Void(Narrowing),
+    /// The combination of these atoms, each with its multiplier, less these squares is above what the atoms allow.
+    Squares(Vec<(u32, Dy)>, Vec<Block>),
     /// The form may not hold.
     False,
     /// The lemma of this number covers the state.
@@ -50,6 +53,7 @@ impl Ending {
     {
         match self {
             Ending::Void(narrowing) => Word::Void(narrowing.kind()),
+            Ending::Squares(_, _) => Word::Squares,
             Ending::False => Word::False,
             Ending::By(_) => Word::By,
         }

@@ -17,6 +17,7 @@ pub enum NarrowingKind {
 pub enum Word {
     Narrow(NarrowingKind),
     Void(NarrowingKind),
+    Squares,
     False,
     By,
     Unit,
@@ -31,13 +32,14 @@ pub enum Word {
 }
 
 // Each word once.
-const WORDS: [Word; 16] = [
+const WORDS: [Word; 17] = [
     Word::Narrow(NarrowingKind::Pull),
     Word::Narrow(NarrowingKind::Push),
     Word::Narrow(NarrowingKind::Combine),
     Word::Void(NarrowingKind::Pull),
     Word::Void(NarrowingKind::Push),
     Word::Void(NarrowingKind::Combine),
+    Word::Squares,
     Word::False,
     Word::By,
     Word::Unit,
@@ -62,6 +64,7 @@ impl Word {
             Word::Void(NarrowingKind::Pull) => "void",
             Word::Void(NarrowingKind::Push) => "voidno",
             Word::Void(NarrowingKind::Combine) => "voidcomb",
+            Word::Squares => "voidpos",
             Word::False => "false",
             Word::By => "by",
             Word::Unit => "unit",

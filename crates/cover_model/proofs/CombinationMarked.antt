@@ -32,15 +32,15 @@ module _ (p : Problem) (s : Loosenings) (S : State) (point : List Coordinate) (i
     | inr k ↦ absurd (true≢false (sym k))
   ]
 
-  all-lie : (ms : Multipliers) → IsTrue (are_combinable p S ms) → AllLie p (marked_range p (margin_of s) S.marks) point ms
-  all-lie [] h = tt
-  all-lie ((j, l) ∷ rest) h =
+  pub all_lie : (ms : Multipliers) → IsTrue (are_combinable p S ms) → AllLie p (marked_range p (margin_of s) S.marks) point ms
+  all_lie [] h = tt
+  all_lie ((j, l) ∷ rest) h =
       let e = both_true (nat_lt j (length p.atoms) && (in_yes S j || in_no_one_sided p S j)) (are_combinable p S rest) h in
       let a = both_true (nat_lt j (length p.atoms)) (in_yes S j || in_no_one_sided p S j) e.0 in
-      (ltb→lt j (length p.atoms) (passes _ a.0), value-lies j (in_no S j) refl a.1, all-lie rest e.1)
+      (ltb→lt j (length p.atoms) (passes _ a.0), value-lies j (in_no S j) refl a.1, all_lie rest e.1)
 
   pub combined_point : IsProblem p → (ms : Multipliers) → IsTrue (can_combine p s S ms) → (space : Space) × (combining p s S ms ≡ Some space) × IsTrue (in_space space point)
   combined_point g ms h =
       let sorts = sorts_of_problem p in let combinable = (both_true (has_version_2 s && is_combination s ms) (are_combinable p S ms) h).1 in
       keeps p g (marked_range p (margin_of s) S.marks) S.space (middle S.space) point (middle_point S.space point) i.sorted i.inside (middle_is_point sorts S.space point i.sorted i.inside) (in_middle S.space point i.inside) ms
-      (all-lie ms combinable)
+      (all_lie ms combinable)

@@ -5,11 +5,13 @@ use Rattle.std.proofs.lemmas.Bool.{eqb-true, leb-true, le-leb}
 use Rattle.dyadic.specs.Fraction.{Fraction, at_most, difference_of}
 use Rattle.dyadic.specs.Rounding.{exact, two_to_minus}
 use Rattle.dyadic.proofs.Equal.{both_true, both_pass}
-use Rattle.interval_model.specs.Space.{Domain, real_domain, bool_domain, Space, can_be_halved, side, better, widest_from, widest, test_axis}
+use Rattle.interval_model.specs.Space.{Domain, real_domain, bool_domain, Space, can_be_halved, middle, side, better, widest_from, widest, test_axis}
 use Rattle.poly_graph.specs.Problem.{Problem}
-use Rattle.cover_model.specs.State.{State, Loosenings, in_version}
+use Rattle.cover_model.specs.State.{State, Loosenings, margin_of, in_version}
+use Rattle.cover_model.specs.Combination.{Multipliers, marked_range}
+use Rattle.square_model.specs.Positive.{is_positive}
 use Rattle.cover_model.specs.Honest.{is_small_domain, is_wide_domain, is_wide, may_be_cut, is_middle_at, not_shown, settled, is_honest}
-use Rattle.cover_model.specs.Rules.{Line, narrow_by, end_by, mark_by, branch_by, stay_by, Narrowing, by_range, by_off_range, by_combination, Ending, void_by, false_form, by_lemma, Branching, cut_axis, flip_axis, case_atom, Staying, open_state, stuck_atom, Left, pulled, voided, has_version_2, has_version_5, in_no_one_sided, most_pairs, is_combination, are_ordered, are_combinable, can_narrow, narrowed_to, ending, rule}
+use Rattle.cover_model.specs.Rules.{Line, narrow_by, end_by, mark_by, branch_by, stay_by, Narrowing, by_range, by_off_range, by_combination, Ending, void_by, by_squares, false_form, by_lemma, Branching, cut_axis, flip_axis, case_atom, Staying, open_state, stuck_atom, Block, Left, closed, when, pulled, voided, has_version_2, has_version_5, in_no_one_sided, most_pairs, is_combination, are_ordered, are_combinable, can_combine, is_void_by_squares, can_narrow, narrowed_to, ending, rule}
 
 le-later : (a u v : ℕ) → u ≤ v → IsTrue (nat_le a u) → IsTrue (nat_le a v)
 le-later a u v h e = let k : a ≤ u = leb-true a u e in le-leb a v (omega (arith, h, k))
@@ -46,8 +48,21 @@ module _ (p : Problem) (s : Loosenings) (v : ℕ) (later : s.version ≤ v) wher
   cond-later true c o x f e = ap (λ (t : Bool). cond t o None) (f refl) ∙ e
   cond-later false c o x f e = cc
 
+  squares-later : (S : State) (ms : Multipliers) (bs : List Block) → IsTrue (is_void_by_squares p s S ms bs) → IsTrue (is_void_by_squares p (in_version v s) S ms bs)
+  squares-later S ms bs e =
+      let above = is_positive p (marked_range p (margin_of s) S.marks) S.space (middle S.space) ms bs in
+      let a = both_true (has_version_5 s && can_combine p s S ms) above e in
+      let b = both_true (has_version_5 s) (can_combine p s S ms) a.0 in
+      both_pass (has_version_5 (in_version v s) && can_combine p (in_version v s) S ms) above
+      (both_pass (has_version_5 (in_version v s)) (can_combine p (in_version v s) S ms) (le-later 5 s.version v later b.0) (narrows_later S (by_combination ms) b.1)) a.1
+
+  when-later : (b c : Bool) (l x : Left) → (IsTrue b → IsTrue c) → when b l ≡ Some x → when c l ≡ Some x
+  when-later true c l x f e = ap (λ (t : Bool). when t l) (f refl) ∙ e
+  when-later false c l x f e = cc
+
   ends-later : (lemmas : List State) (S : State) (e : Ending) (x : Left) → ending p s lemmas S e ≡ Some x → ending p (in_version v s) lemmas S e ≡ Some x
   ends-later lemmas S (void_by n) x h = cond-later (can_narrow p s S n) (can_narrow p (in_version v s) S n) (voided (narrowed_to p s S n)) x (narrows_later S n) h
+  ends-later lemmas S (by_squares ms bs) x h = when-later (is_void_by_squares p s S ms bs) (is_void_by_squares p (in_version v s) S ms bs) closed x (squares-later S ms bs) h
   ends-later lemmas S false_form x h = h
   ends-later lemmas S (by_lemma i) x h = h
 

@@ -34,6 +34,7 @@ pub mod Rows
 pub mod Run
 pub mod Shown
 pub mod Sound
+pub mod Squares
 pub mod Stuck
 pub mod Unnarrowed
 pub mod Within

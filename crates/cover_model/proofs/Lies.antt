@@ -11,7 +11,7 @@ use Rattle.poly_graph.specs.Problem.{Problem, IsProblem, atom_at}
 use Rattle.poly_graph.specs.Marks.{Mark, marked_yes, marked_no, marks_within}
 use Rattle.cover_model.specs.State.{State, Loosenings, margin_of, undecided, with_mark, with_space, may, covers}
 use Rattle.cover_model.specs.Combination.{Multipliers, marked_range}
-use Rattle.cover_model.specs.Rules.{Line, narrow_by, end_by, mark_by, branch_by, stay_by, Narrowing, by_range, by_off_range, by_combination, Ending, void_by, false_form, by_lemma, Marking, unit_atom, ban_atom, Branching, cut_axis, flip_axis, case_atom, Left, closed, one, two, stays, narrowing, narrowing_off, combining, lemma_covers, can_narrow, narrowed_to, ending, can_mark, marked, can_branch, first_child, second_child, can_stay, when, pulled, voided, rule}
+use Rattle.cover_model.specs.Rules.{Line, narrow_by, end_by, mark_by, branch_by, stay_by, Narrowing, by_range, by_off_range, by_combination, Ending, void_by, by_squares, false_form, by_lemma, Marking, unit_atom, ban_atom, Branching, cut_axis, flip_axis, case_atom, Left, closed, one, two, stays, narrowing, narrowing_off, combining, is_void_by_squares, lemma_covers, can_narrow, narrowed_to, ending, can_mark, marked, can_branch, first_child, second_child, can_stay, when, pulled, voided, rule}
 use Rattle.cover_model.proofs.CombinationWithin.{combining_lies_within}
 use Rattle.cover_model.specs.Derivation.{Tree, Lawful, at_closed, at_left, at_step, at_fork, LiesWithin, LiesWithinIf, EachWithin}
 use Rattle.poly_graph.proofs.Marks
@@ -100,6 +100,7 @@ module _ (p : Problem) (g : IsProblem p) (s : Loosenings) where
 
   ending_within : (lemmas : List State) (S : State) (e : Ending) → LiesWithinIf S (ending p s lemmas S e)
   ending_within lemmas S (void_by n) = by-cond (can_narrow p s S n) (voided (narrowed_to p s S n)) S (voided-within S (narrowed_to p s S n))
+  ending_within lemmas S (by_squares ms bs) = by-when (is_void_by_squares p s S ms bs) closed S (λ e. tt)
   ending_within lemmas S false_form = by-when (not (may p s S)) closed S (λ e. tt)
   ending_within lemmas S (by_lemma k) = by-when (lemma_covers lemmas k S) closed S (λ e. tt)
 

@@ -11,10 +11,11 @@ use Rattle.cover_model.specs.Space.{range}
 use Rattle.poly_graph.specs.Problem.{Problem, IsProblem, sorts_of_problem, atom_at, term_of, full_atom}
 use Rattle.poly_graph.specs.Marks.{Mark, marked_yes, marked_no, is_yes, is_no, marks_within}
 use Rattle.cover_model.specs.State.{State, Loosenings, margin_of, in_no, undecided, with_yes, with_no, with_space, may, IsPointOf, MeetsForm, IsLemma, covers}
-use Rattle.cover_model.specs.Rules.{Line, narrow_by, end_by, mark_by, branch_by, stay_by, Narrowing, by_range, by_off_range, by_combination, Ending, void_by, false_form, by_lemma, Marking, unit_atom, ban_atom, Branching, cut_axis, flip_axis, case_atom, Left, closed, one, two, stays, narrowing, narrowing_off, has_version_2, is_one_sided, in_no_one_sided, can_push, covers_by, lemma_covers, can_narrow, narrowed_to, ending, can_mark, marked, can_branch, first_child, second_child, can_stay, when, pulled, voided, rule}
+use Rattle.cover_model.specs.Rules.{Line, narrow_by, end_by, mark_by, branch_by, stay_by, Narrowing, by_range, by_off_range, by_combination, Ending, void_by, by_squares, false_form, by_lemma, Marking, unit_atom, ban_atom, Branching, cut_axis, flip_axis, case_atom, Left, closed, one, two, stays, narrowing, narrowing_off, has_version_2, is_void_by_squares, is_one_sided, in_no_one_sided, can_push, covers_by, lemma_covers, can_narrow, narrowed_to, ending, can_mark, marked, can_branch, first_child, second_child, can_stay, when, pulled, voided, rule}
 use Rattle.cover_model.specs.Derivation.{Tree, Lawful, at_closed, at_left, at_step, at_fork, Keeps, KeepsIf, Among, here, later, AreLemmas}
 use Rattle.poly_graph.proofs.Marks.{set_or_same, yes_within, no_within}
 use Rattle.cover_model.proofs.CombinationMarked.{combined_point}
+use Rattle.cover_model.proofs.Squares.{void_by_squares}
 use Rattle.cover_model.proofs.May.{may_is, range_holds, range_kept, margin_on_grid}
 use Rattle.cover_model.proofs.Narrows.{narrows}
 use Rattle.cover_model.proofs.OffRanges.{off_range_kept, off_range_holds}
@@ -156,6 +157,7 @@ module _ (p : Problem) (s : Loosenings) where
     pub ends_soundly : (lemmas : List State) → AreLemmas p s lemmas → (S : State) (e : Ending) (point : List Coordinate) → IsPointOf p s S point → MeetsForm p s point → KeepsIf p s (ending p s lemmas S e) S point
     ends_soundly lemmas f S (void_by n) point i h = by-cond (can_narrow p s S n) (can_narrow p s S n) (voided (narrowed_to p s S n)) S point refl
         (λ e. let k = narrows_soundly S n point i e in rw k.1 tt)
+    ends_soundly lemmas f S (by_squares ms bs) point i h = by-when (is_void_by_squares p s S ms bs) closed S point (λ e. void_by_squares p s S point i g ms bs e)
     ends_soundly lemmas f S false_form point i h = by-when (not (may p s S)) closed S point (λ e. not_both (may p s S) (may_is p g s S point i h) e)
     ends_soundly lemmas f S (by_lemma k) point i h = by-when (lemma_covers lemmas k S) closed S point (λ e. no-point lemmas f k S point e i h)
 

@@ -4,6 +4,9 @@
 use Rattle.std.specs.Prelude.{ℕ, zero, suc, List, [], ◌∷◌, length, Bool, true, false, cond, Option, Some, None, pos, nat_eq, slice_get}
 use Rattle.dyadic.specs.Rounding.{Dyadic, finite}
 pub use Rattle.cover_line.specs.Line.{Multipliers}
+pub use Rattle.square_model.specs.Polynomial.{only, nought_alone}
+pub use Rattle.square_model.specs.Positive.{allowed_range}
+pub use Rattle.square_model.specs.Range.{interval_difference, apart_range}
 use Rattle.interval_model.specs.Interval.{Interval, between, interval_negated, interval_sum, interval_product, interval_square, inverse_product, inverse_square, misses_nought, met, is_nothing, nothing, everything}
 use Rattle.poly_graph.specs.Term.{Node, variable_node, negate_node, add_node, multiply_node, square_node}
 use Rattle.interval_model.specs.Space.{Space, axis_interval, middle}
@@ -13,15 +16,6 @@ use Rattle.cover_model.specs.Space.{range}
 use Rattle.cover_model.specs.OffRange.{off_range}
 use Rattle.cover_model.specs.Narrowed.{enclosures, set_axis}
 use Rattle.cover_model.specs.NodeEnclosure.{row}
-
-abbrev pub only : Dyadic → Interval
-only d = between (finite d) (finite d)
-
-abbrev pub nought_alone : Interval
-nought_alone = only (record { units = pos 0 })
-
-abbrev pub interval_difference : Interval → Interval → Interval
-interval_difference i j = interval_sum i (interval_negated j)
 
 -- ---- adjoints: for each node the coefficient of its difference to its value at the centre, none where it has none
 
@@ -143,9 +137,6 @@ both_range (Some w) None d = interval_product w d
 both_range None (Some q) d = interval_product q (interval_square d)
 both_range (Some w) (Some q) d = met_if (misses_nought (interval_sum q q)) (interval_sum (interval_product w d) (interval_product q (interval_square d))) (completed w q d)
 
-abbrev pub apart_range : Space → Space → ℕ → Interval
-apart_range space centre axis = interval_difference (axis_interval space axis) (axis_interval centre axis)
-
 abbrev pub part_range : Space → Space → Part → Interval
 part_range space centre x = both_range x.linear x.square (apart_range space centre x.axis)
 
@@ -155,11 +146,6 @@ parts_range space centre (x ∷ rest) = interval_sum (part_range space centre x)
 
 abbrev pub range_of : Space → Space → Expansion → Interval
 range_of space centre e = interval_sum e.rest (parts_range space centre e.parts)
-
--- the range that the atoms leave to the combination, where these are the ranges of their terms' values
-abbrev pub allowed_range : (ℕ → Interval) → Multipliers → Interval
-allowed_range ranges [] = nought_alone
-allowed_range ranges ((j, l) ∷ rest) = interval_sum (allowed_range ranges rest) (interval_product (only l) (ranges j))
 
 -- ---- narrowing: what the allowed range leaves to each part, less the range of the others
 

@@ -5,6 +5,7 @@ use Rattle.dyadic.specs.Point.{Sort, Coordinate, IsPoint}
 use Rattle.dyadic.specs.Rounding.{exact, two_to_minus}
 use Rattle.interval_model.specs.Interval.{Interval, within, holds_fraction, interval_sum, misses_nought}
 use Rattle.poly_graph.specs.Term.{Term, term_value, atom_holds}
+pub use Rattle.square_model.specs.Laws.{AllLie}
 use Rattle.interval_model.specs.Space.{Space, in_space, is_upright, space_within, middle}
 use Rattle.cover_model.specs.Space.{IsGridSpace, enclosure, range}
 use Rattle.poly_graph.specs.Problem.{Problem, IsProblem, IsTerm, sorts_of_problem, atom_at, term_of, full_atom, in_declared_box, crosses}
@@ -109,11 +110,6 @@ RootIsUpright = (p : Problem) → IsProblem p → ((i : ℕ) → IsTrue (not (cr
 abbrev pub SomeAtomIsStuck : Type 0
 SomeAtomIsStuck = (p : Problem) → IsProblem p → (s : Loosenings) (S : State) (w : ℕ) → IsGridSpace S.space → IsTrue (is_upright S.space) → IsTrue (not_shown p s S) → IsTrue (is_small w S.space) →
     (j : ℕ) × (j < length p.atoms) × IsTrue (is_stuck_atom p s S j) × IsTrue (none_below p s S j)
-
--- Each is an atom, and its term's value at the point lies in its range.
-abbrev pub AllLie : Problem → (ℕ → Interval) → List Coordinate → Multipliers → Type 0
-AllLie p ranges point [] = Unit {0}
-AllLie p ranges point ((j, l) ∷ rest) = (j < length p.atoms) × IsTrue (holds_fraction (ranges j) (term_value point (term_of p j))) × AllLie p ranges point rest
 
 -- A combination, expanded at any centre, drops no point of the space at which the values of all its atoms lie in their ranges, and leaves something where there is such a point.
 abbrev pub CombiningKeeps : Type 0

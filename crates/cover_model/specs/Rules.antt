@@ -1,15 +1,16 @@
 -- The lines of a cover, each with its condition on a state and the states that it leaves.
 use Rattle.std.specs.Prelude.{ℕ, List, [], ◌∷◌, length, Bool, true, false, cond, not, ◌&&◌, ◌||◌, Option, Some, None, nat_le, nat_lt, slice_get}
-pub use Rattle.cover_line.specs.Line.{Line, narrow_by, end_by, mark_by, branch_by, stay_by, Narrowing, by_range, by_off_range, by_combination, Ending, void_by, false_form, by_lemma, Marking, unit_atom, ban_atom, Branching, cut_axis, flip_axis, case_atom, Staying, open_state, stuck_atom, pull, unit, void, push, void_no, combine, void_combine, ban, make_false, by, cut, flip, case, open_line, stuck}
+pub use Rattle.cover_line.specs.Line.{Block, Line, narrow_by, end_by, mark_by, branch_by, stay_by, Narrowing, by_range, by_off_range, by_combination, Ending, void_by, by_squares, false_form, by_lemma, Marking, unit_atom, ban_atom, Branching, cut_axis, flip_axis, case_atom, Staying, open_state, stuck_atom, pull, unit, void, push, void_no, combine, void_combine, void_squares, ban, make_false, by, cut, flip, case, open_line, stuck}
 use Rattle.interval_model.specs.Interval.{misses_nought}
 use Rattle.poly_graph.specs.Term.{Kind, le, ge, eq}
-use Rattle.interval_model.specs.Space.{Domain, Space, strictly_inside, lower_part, upper_part, is_undecided, keep, changed, test_axis}
+use Rattle.interval_model.specs.Space.{Domain, Space, middle, strictly_inside, lower_part, upper_part, is_undecided, keep, changed, test_axis}
 use Rattle.cover_model.specs.Space.{range}
 use Rattle.poly_graph.specs.Problem.{Problem, atom_at}
 use Rattle.cover_model.specs.State.{State, Loosenings, margin_of, delta_of, in_yes, in_no, undecided, with_yes, with_no, with_space, may, misses, sure_at, covers}
 use Rattle.cover_model.specs.Narrowed.{narrowed_by}
 use Rattle.cover_model.specs.OffRange.{off_range}
-use Rattle.cover_model.specs.Combination.{Multipliers, only, combined}
+use Rattle.cover_model.specs.Combination.{Multipliers, only, combined, marked_range}
+use Rattle.square_model.specs.Positive.{is_positive}
 
 -- what a rule leaves of a state, where its condition holds
 pub data Left : Type 0 where
@@ -76,6 +77,13 @@ is_combination s ms = nat_lt 0 (length ms) && nat_le (length ms) (most_pairs s) 
 -- these atoms may be combined at the state
 abbrev pub can_combine : Problem → Loosenings → State → Multipliers → Bool
 can_combine p s S ms = has_version_2 s && is_combination s ms && are_combinable p S ms
+
+-- ---- sums of squares
+
+-- these atoms may be combined, and what is left of the combination without the blocks is above what the atoms allow, so that the
+-- space has no point at which each value lies where its mark says
+abbrev pub is_void_by_squares : Problem → Loosenings → State → Multipliers → List Block → Bool
+is_void_by_squares p s S ms bs = has_version_5 s && can_combine p s S ms && is_positive p (marked_range p (margin_of s) S.marks) S.space (middle S.space) ms bs
 
 -- ---- lemmas
 
@@ -156,6 +164,7 @@ voided (Some space) = None
 
 abbrev pub ending : Problem → Loosenings → List State → State → Ending → Option Left
 ending p s lemmas S (void_by n) = cond (can_narrow p s S n) (voided (narrowed_to p s S n)) None
+ending p s lemmas S (by_squares ms bs) = when (is_void_by_squares p s S ms bs) closed
 ending p s lemmas S false_form = when (not (may p s S)) closed
 ending p s lemmas S (by_lemma i) = when (lemma_covers lemmas i S) closed
 

@@ -50,7 +50,7 @@ pub(crate) const GREAT: &str = "(declare-const x Real)
 (check-sat)";
 
 // How a patch ends.
-enum Wanted {
+pub(crate) enum Wanted {
     // Closed by these steps and this end.
     Closed(&'static [&'static str], &'static str),
     // Parted into these two states.
@@ -61,13 +61,13 @@ enum Wanted {
 
 // A patch for a script: the least width, whether the lemma of the whole interval may be quoted, the state in which it
 // begins, each line with what it answers, and how it ends.
-struct Case {
-    script: &'static str,
-    least_bits: u32,
-    quotes: bool,
-    state: &'static [&'static str],
-    lines: &'static [(&'static str, Answer)],
-    wanted: Wanted,
+pub(crate) struct Case {
+    pub(crate) script: &'static str,
+    pub(crate) least_bits: u32,
+    pub(crate) quotes: bool,
+    pub(crate) state: &'static [&'static str],
+    pub(crate) lines: &'static [(&'static str, Answer)],
+    pub(crate) wanted: Wanted,
 }
 
 // Whether what closes a state is what is wanted.
@@ -145,7 +145,7 @@ fn holds_raised(alloc: Global, case: &Case) -> bool {
     }
 }
 
-fn all_hold(alloc: Global, cases: &[Case]) -> bool {
+pub(crate) fn all_hold(alloc: Global, cases: &[Case]) -> bool {
     for case in cases {
         if !holds(alloc, case) {
             return false;
@@ -154,7 +154,7 @@ fn all_hold(alloc: Global, cases: &[Case]) -> bool {
     true
 }
 
-fn all_hold_raised(alloc: Global, cases: &[Case]) -> bool {
+pub(crate) fn all_hold_raised(alloc: Global, cases: &[Case]) -> bool {
     for case in cases {
         if !holds_raised(alloc, case) {
             return false;

@@ -1,5 +1,5 @@
-//! Worked rows from the text of a script to the text of a certificate: patches and their refusals, combinations, points,
-//! books, and the states that the checker keeps. There are tests alone, nothing to call.
+//! Worked rows from the text of a script to the text of a certificate: patches and their refusals, combinations, squares,
+//! points, books, and the states that the checker keeps. There are tests alone, nothing to call.
 #![tactic(auto)]
 
 #[cfg(test)]
@@ -22,3 +22,5 @@ mod points;
 mod reopened;
 #[cfg(test)]
 mod shared;
+#[cfg(test)]
+mod squares;

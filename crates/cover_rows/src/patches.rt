@@ -100,6 +100,8 @@ pub(crate) const NOT_NO: Answer = Err(PatchRefusal::NotNo);
 
 pub(crate) const NOT_COMBINABLE: Answer = Err(PatchRefusal::NotCombinable);
 
+pub(crate) const TOO_LONG: Answer = Err(PatchRefusal::TooLong);
+
 pub(crate) const IS_VOID: Answer = Err(PatchRefusal::IsVoid);
 
 pub(crate) const NOT_INSIDE: Answer = Err(PatchRefusal::NotInside);
@@ -199,8 +201,8 @@ fn answer_by(book: &Book, lemma: &Lemma, patch: &mut Patch, line: &Line) -> Opti
     }
 }
 
-// What the patch answers to a line. It chooses where on its axis a cut is made.
-fn answer(book: &Book, lemma: Option<&Lemma>, patch: &mut Patch, line: &Line) -> Option<Answer>
+// What the patch answers to a line that has no squares. It chooses where on its axis a cut is made.
+fn answer_to(book: &Book, lemma: Option<&Lemma>, patch: &mut Patch, line: &Line) -> Option<Answer>
     requires problem { patch.old.problem ≡ book.now.problem }
     requires margins { patch.old.margins ≡ margins_of book.now.options }
     requires fits { IfSome lemma (λ l. FitsProblem (problem_in book.now) l.now.state) }
@@ -221,12 +223,30 @@ fn answer(book: &Book, lemma: Option<&Lemma>, patch: &mut Patch, line: &Line) ->
     }
 }
 
+// What the patch answers to a line.
+fn answer(book: &Book, lemma: Option<&Lemma>, patch: &mut Patch, line: Line) -> Option<Answer>
+    requires problem { patch.old.problem ≡ book.now.problem }
+    requires margins { patch.old.margins ≡ margins_of book.now.options }
+    requires fits { IfSome lemma (λ l. FitsProblem (problem_in book.now) l.now.state) }
+    requires lemma { IfSome lemma (λ l.
+        IsLemma (problem_in book.now) (loosenings_in book.now) l.now.state) }
+    ensures problem { patch.new.problem ≡ patch.old.problem }
+    ensures margins { patch.new.margins ≡ patch.old.margins }
+{
+    match line {
+        Line::Rule(Rule::End(Ending::Squares(pairs, blocks))) => {
+            Some(patch.squares(pairs, blocks))
+        }
+        other => answer_to(book, lemma, patch, &other),
+    }
+}
+
 // Whether the patch answers so, and its state stays as it was before where it refuses.
 fn answers_so(
     book: &Book,
     lemma: Option<&Lemma>,
     patch: &mut Patch,
-    line: &Line,
+    line: Line,
     expected: Answer,
     before: &State,
 ) -> bool
@@ -250,7 +270,7 @@ fn is_line_answered(
     book: &Book,
     lemma: Option<&Lemma>,
     patch: &mut Patch,
-    line: &Line,
+    line: Line,
     expected: Answer,
 ) -> bool
     requires problem { patch.old.problem ≡ book.now.problem }
@@ -285,7 +305,7 @@ fn is_answered(
     ensures margins { patch.new.margins ≡ patch.old.margins }
 {
     match line_of(alloc, text) {
-        Some(line) => is_line_answered(alloc, book, lemma, patch, &line, expected),
+        Some(line) => is_line_answered(alloc, book, lemma, patch, line, expected),
         None => false,
     }
 }
@@ -417,6 +437,11 @@ fn is_end(line: &Line, end: &End) -> bool {
         (Line::Rule(Rule::End(Ending::Void(read))), End::Close(Closing::Void(made))) => {
             is_narrowing(read, made)
         }
+        (
+            Line::Rule(Rule::End(Ending::Squares(pairs, blocks))),
+            End::Close(Closing::Squares(made)),
+        ) => pairs.as_slice() == made.pairs.as_slice()
+            && blocks.as_slice() == made.blocks.as_slice(),
         (Line::Rule(Rule::End(Ending::False)), End::Close(Closing::False)) => true,
         (Line::Rule(Rule::End(Ending::By(id))), End::Close(Closing::By(quoted))) => *id == *quoted,
         _ => false,

@@ -13,17 +13,18 @@ use Rattle.poly_graph.specs.Problem.{Declared, real_between, any_bool, Axis}
 use Rattle.poly_graph.specs.ProblemViews.{Parts, IsWhole}
 use Rattle.cover_model.specs.State.{State, IsLemma, undecided, with_yes, with_no, with_space, may, covers}
 use Rattle.poly_graph.specs.Marks.{marked_yes, marked_no}
-use Rattle.cover_model.specs.Rules.{Line, narrow_by, end_by, Narrowing, void_by, unit, ban, make_false, by, cut, flip, case, stuck, Left, closed, one, stays, when, pulled, voided, covers_by, is_stuck_atom, rule}
+use Rattle.square_model.specs.Positive.{Multipliers}
+use Rattle.cover_model.specs.Rules.{Block, Line, narrow_by, end_by, Narrowing, void_by, void_squares, unit, ban, make_false, by, cut, flip, case, stuck, Left, closed, one, stays, when, pulled, voided, covers_by, is_stuck_atom, rule}
 use Rattle.cover_model.specs.Honest.{is_honest, is_small, is_some_space}
 use Rattle.cover_model.specs.Fits.{FitsAxis, FitsAxes}
 use Rattle.cover_data.specs.declared.margins.Margins.{Margins}
 use Rattle.cover_rule.specs.declared.refusal.PatchRefusal.{PatchRefusal}
-use Rattle.cover_rule.specs.declared.refusal.PatchRefusal.TheVariants.{NotYes, NotForced, NotCovered, NotFalse, NotInside, NotStuck, NotHonest, Ended, IsVoid, Decided, NotNo, NotCombinable, Memory}
+use Rattle.cover_rule.specs.declared.refusal.PatchRefusal.TheVariants.{NotYes, NotForced, NotCovered, NotFalse, NotInside, NotStuck, NotHonest, Ended, IsVoid, Decided, NotNo, NotCombinable, TooLong, Memory}
 use Rattle.cover_data.specs.Models.{LemmaModel}
 use Rattle.cover_rule.specs.Models.{PatchModel}
 use Rattle.cover_data.specs.Runs.{is_closing, CanPart, IsEnding}
 use Rattle.cover_rule.specs.Patch.{problem_in, loosenings_in, now_in, IsRunOf, can_narrow_in, narrowed_in, narrowed_space, space_or}
-use Rattle.cover_rule.specs.Refusals.{IfLessStep, unless, then_by, if_ended, honestly, why_not, narrow_refusal, narrowed_by, unit_refusal, forced_by, ban_refusal, banned_by, void_refusal, VoidEnd, false_refusal, by_refusal, ended_with, covered_by, flip_refusal, case_refusal, stuck_refusal, cut_line, cut_test, cut_refusal, ended_if, cut_by, PatchAnswer, EndAnswer, AnswerIf, takes_memory}
+use Rattle.cover_rule.specs.Refusals.{IfLessStep, unless, then_by, if_ended, honestly, why_not, narrow_refusal, narrowed_by, unit_refusal, forced_by, ban_refusal, banned_by, void_refusal, VoidEnd, can_square_in, fits_line, is_positive_in, squaring_refusal, squares_refusal, SquaresEnd, false_refusal, by_refusal, ended_with, covered_by, flip_refusal, case_refusal, stuck_refusal, cut_line, cut_test, cut_refusal, ended_if, cut_by, PatchAnswer, EndAnswer, TestAnswer, AnswerIf, takes_memory}
 use Rattle.cover_rule.proofs.RunSteps.{run_steps, run_ends, kept_before, lemmas_and, alone, kept_alone, sound_alone, no_lemmas}
 use Rattle.cover_data.specs.declared.kept.KeptPatch.{KeptPatch}
 use Rattle.cover_rule.specs.declared.workspace.Workspace.{Workspace}
@@ -91,11 +92,30 @@ run_refused refusal P done Q IsVoid a h = subst IsRunOf (sym a.1) h
 run_refused refusal P done Q Decided a h = subst IsRunOf (sym a.1) h
 run_refused refusal P done Q NotNo a h = subst IsRunOf (sym a.1) h
 run_refused refusal P done Q NotCombinable a h = subst IsRunOf (sym a.1) h
+run_refused refusal P done Q TooLong a h = subst IsRunOf (sym a.1) h
 run_refused refusal P done Q Memory a h = subst IsRunOf (sym a.1) h
 
 pub run_after : (refusal : Option PatchRefusal) (P done Q : PatchModel) (r : Result (Unit {0}) PatchRefusal) → PatchAnswer refusal P done Q r → IsRunOf P → OnOk r (refusal ≡ None → IsRunOf done) → IsRunOf Q
 run_after refusal P done Q (Ok u) a h k = subst IsRunOf (sym a.1) (k a.0)
 run_after refusal P done Q (Err x) a h k = run_refused refusal P done Q x a h
+
+-- the same of a call whose last test takes memory
+pub run_tested : (first refusal : Option PatchRefusal) (P done Q : PatchModel) (r : Result (Unit {0}) PatchRefusal) → TestAnswer first refusal P done Q r → IsRunOf P → OnOk r (refusal ≡ None → IsRunOf done) → IsRunOf Q
+run_tested first refusal P done Q (Ok u) a h k = subst IsRunOf (sym a.1) (k a.0)
+run_tested first refusal P done Q (Err NotYes) a h k = subst IsRunOf (sym a.1) h
+run_tested first refusal P done Q (Err NotForced) a h k = subst IsRunOf (sym a.1) h
+run_tested first refusal P done Q (Err NotCovered) a h k = subst IsRunOf (sym a.1) h
+run_tested first refusal P done Q (Err NotFalse) a h k = subst IsRunOf (sym a.1) h
+run_tested first refusal P done Q (Err NotInside) a h k = subst IsRunOf (sym a.1) h
+run_tested first refusal P done Q (Err NotStuck) a h k = subst IsRunOf (sym a.1) h
+run_tested first refusal P done Q (Err NotHonest) a h k = subst IsRunOf (sym a.1) h
+run_tested first refusal P done Q (Err Ended) a h k = subst IsRunOf (sym a.1) h
+run_tested first refusal P done Q (Err IsVoid) a h k = subst IsRunOf (sym a.1) h
+run_tested first refusal P done Q (Err Decided) a h k = subst IsRunOf (sym a.1) h
+run_tested first refusal P done Q (Err NotNo) a h k = subst IsRunOf (sym a.1) h
+run_tested first refusal P done Q (Err NotCombinable) a h k = subst IsRunOf (sym a.1) h
+run_tested first refusal P done Q (Err TooLong) a h k = subst IsRunOf (sym a.1) h
+run_tested first refusal P done Q (Err Memory) a h k = subst IsRunOf (sym a.1) h
 
 -- the same of a call that takes no memory
 pub run_ended : (refusal : Option PatchRefusal) (P done Q : PatchModel) (r : Result (Unit {0}) PatchRefusal) → EndAnswer refusal P done Q r → IsRunOf P → OnOk r (refusal ≡ None → IsRunOf done) → IsRunOf Q
@@ -137,6 +157,7 @@ answers_lift f refusal old done new (Err IsVoid) a = (a.0, ap f a.1)
 answers_lift f refusal old done new (Err Decided) a = (a.0, ap f a.1)
 answers_lift f refusal old done new (Err NotNo) a = (a.0, ap f a.1)
 answers_lift f refusal old done new (Err NotCombinable) a = (a.0, ap f a.1)
+answers_lift f refusal old done new (Err TooLong) a = (a.0, ap f a.1)
 answers_lift f refusal old done new (Err Memory) a = (a.0, ap f a.1)
 
 -- ---- steps
@@ -207,6 +228,19 @@ module _ (P : PatchModel) (whole : IsWhole P.problem) (r : IsRunOf P) where
 
   pub run_voided : (n : Narrowing) (Q : PatchModel) (x : Result (Unit {0}) PatchRefusal) → VoidEnd P n Q x → IsRunOf Q
   run_voided n Q x h = run-if-memory (takes_memory n) (void_refusal P n) P (ended_with P (end_by (void_by n))) Q x h r (any_ok (void_refusal P n ≡ None → IsRunOf (ended_with P (end_by (void_by n)))) x (void-closes n))
+
+  squares-close : (ms : Multipliers) (bs : List Block) → squares_refusal P ms bs ≡ None → IsRunOf (ended_with P (void_squares ms bs))
+  squares-close ms bs e =
+      let can = can_square_in P ms in let positive = is_positive_in P ms bs in
+      let a = neither (squaring_refusal P ms bs) (unless positive NotFalse) e in
+      let b = neither (if_ended P.kept) (then_by (unless can NotCombinable) (unless (fits_line ms bs) TooLong)) a.0 in
+      let d = neither (unless can NotCombinable) (unless (fits_line ms bs) TooLong) b.1 in
+      closes-plain (void_squares ms bs) (not_ended P b.0)
+      (λ lemmas. when-true (can && positive) closed (both_pass can positive (passed can NotCombinable d.0) (passed positive NotFalse a.1))) refl tt
+
+  pub run_squared : (ms : Multipliers) (bs : List Block) (Q : PatchModel) (x : Result (Unit {0}) PatchRefusal) → SquaresEnd P ms bs Q x → IsRunOf Q
+  run_squared ms bs Q x h = run_tested (squaring_refusal P ms bs) (squares_refusal P ms bs) P (ended_with P (void_squares ms bs)) Q x h r
+      (any_ok (squares_refusal P ms bs ≡ None → IsRunOf (ended_with P (void_squares ms bs))) x (squares-close ms bs))
 
   pub run_made_false : false_refusal P ≡ None → IsRunOf (ended_with P make_false)
   run_made_false e =

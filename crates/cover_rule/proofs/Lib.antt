@@ -8,4 +8,5 @@ pub mod Narrowings
 pub mod Points
 pub mod RunSteps
 pub mod Sides
+pub mod Squarings
 pub mod Voids

@@ -1,14 +1,17 @@
 -- What a patch answers: for each step and each end the first refusal, and the patch after it where there is none.
-use Rattle.std.specs.Prelude.{◌≡◌, ◌≢◌, ◌<◌, ℕ, zero, suc, [], ◌∷◌, ◌++◌, Option, Some, None, Bool, true, false, not, ◌&&◌, ◌||◌, cond, nat_eq, is_none, length, Result, Ok, Err}
+use Rattle.std.specs.Prelude.{◌≡◌, ◌≢◌, ◌<◌, ℕ, zero, suc, List, [], ◌∷◌, ◌++◌, Option, Some, None, Bool, true, false, not, ◌&&◌, ◌||◌, cond, nat_eq, nat_le, is_none, length, Result, Ok, Err}
 use Rattle.dyadic.specs.Fraction.{at_most, difference_of}
 use Rattle.dyadic.specs.Rounding.{Dyadic, exact, two_to_minus, mid}
-use Rattle.interval_model.specs.Space.{Domain, real_domain, bool_domain, Space, can_be_halved, test_axis, is_undecided, widest}
+use Rattle.interval_model.specs.Space.{Domain, real_domain, bool_domain, Space, can_be_halved, middle, test_axis, is_undecided, widest}
 use Rattle.ival.specs.BestViews.{axis_of}
-use Rattle.cover_model.specs.State.{Loosenings, undecided, with_yes, with_no, with_space, may, covers}
-use Rattle.cover_model.specs.Rules.{Line, has_version_5, narrow_by, end_by, Narrowing, by_range, by_off_range, by_combination, void_by, unit, ban, make_false, by, cut, flip, case, stuck, is_stuck_atom}
+use Rattle.square_model.specs.Positive.{Multipliers, all_numbers, is_positive, most_numbers}
+use Rattle.cover_model.specs.Combination.{marked_range}
+use Rattle.poly_graph.specs.Problem.{Problem}
+use Rattle.cover_model.specs.State.{State, Loosenings, margin_of, undecided, with_yes, with_no, with_space, may, covers}
+use Rattle.cover_model.specs.Rules.{Block, Line, has_version_5, can_combine, narrow_by, end_by, Narrowing, by_range, by_off_range, by_combination, void_by, void_squares, unit, ban, make_false, by, cut, flip, case, stuck, is_stuck_atom}
 use Rattle.cover_model.specs.Honest.{is_honest, may_be_cut, is_middle_at, is_small, is_some_space}
 use Rattle.cover_rule.specs.declared.refusal.PatchRefusal.{PatchRefusal}
-use Rattle.cover_rule.specs.declared.refusal.PatchRefusal.TheVariants.{NotYes, NotForced, NotCovered, NotFalse, NotInside, NotStuck, NotHonest, Ended, IsVoid, Decided, NotNo, NotCombinable, Memory}
+use Rattle.cover_rule.specs.declared.refusal.PatchRefusal.TheVariants.{NotYes, NotForced, NotCovered, NotFalse, NotInside, NotStuck, NotHonest, Ended, IsVoid, Decided, NotNo, NotCombinable, TooLong, Memory}
 use Rattle.cover_data.specs.Models.{LemmaModel, KeptModel}
 use Rattle.cover_rule.specs.Models.{PatchModel}
 use Rattle.cover_rule.specs.Patch.{problem_in, loosenings_in, now_in, stepped, ended_by, with_kept, can_narrow_in, narrowed_in, narrowed_space}
@@ -70,6 +73,31 @@ abbrev pub takes_memory : Narrowing → Bool
 takes_memory (by_range j) = false
 takes_memory (by_off_range j) = false
 takes_memory (by_combination ms) = true
+
+-- the version has ends by squares, and these atoms may be combined
+abbrev pub can_square : Problem → Loosenings → State → Multipliers → Bool
+can_square p s S ms = has_version_5 s && can_combine p s S ms
+
+abbrev pub can_square_in : PatchModel → Multipliers → Bool
+can_square_in P ms = can_square (problem_in P) (loosenings_in P) (now_in P) ms
+
+-- so many numbers fit a line
+abbrev pub fits_line : Multipliers → List Block → Bool
+fits_line ms bs = nat_le (all_numbers ms bs) most_numbers
+
+-- the combination without the blocks is above what the atoms allow
+abbrev pub is_positive_at : Problem → Loosenings → State → Multipliers → List Block → Bool
+is_positive_at p s S ms bs = is_positive p (marked_range p (margin_of s) S.marks) S.space (middle S.space) ms bs
+
+abbrev pub is_positive_in : PatchModel → Multipliers → List Block → Bool
+is_positive_in P ms bs = is_positive_at (problem_in P) (loosenings_in P) (now_in P) ms bs
+
+-- before the blocks are looked at
+abbrev pub squaring_refusal : PatchModel → Multipliers → List Block → Option PatchRefusal
+squaring_refusal P ms bs = then_by (if_ended P.kept) (then_by (unless (can_square_in P ms) NotCombinable) (unless (fits_line ms bs) TooLong))
+
+abbrev pub squares_refusal : PatchModel → Multipliers → List Block → Option PatchRefusal
+squares_refusal P ms bs = then_by (squaring_refusal P ms bs) (unless (is_positive_in P ms bs) NotFalse)
 
 abbrev pub false_refusal : PatchModel → Option PatchRefusal
 false_refusal P = then_by (if_ended P.kept) (unless (not (may (problem_in P) (loosenings_in P) (now_in P))) NotFalse)
@@ -162,6 +190,18 @@ abbrev pub AnswerIf : {X : Type 0} → Bool → Option PatchRefusal → X → X 
 AnswerIf true refusal old done new r = PatchAnswer refusal old done new r
 AnswerIf false refusal old done new r = EndAnswer refusal old done new r
 
+-- what is told of the refusal by tests of which the last takes memory: where that is out, that the first ones do not refuse it
+abbrev pub IsTold : Option PatchRefusal → Option PatchRefusal → Result (Unit {0}) PatchRefusal → Type 0
+IsTold first refusal (Ok u) = refusal ≡ None
+IsTold first refusal (Err Memory) = first ≡ None
+IsTold first refusal (Err e) = refusal ≡ Some e
+
+-- the same of a call that makes such tests
+abbrev pub TestAnswer : {X : Type 0} → Option PatchRefusal → Option PatchRefusal → X → X → X → Result (Unit {0}) PatchRefusal → Type 0
+TestAnswer first refusal old done new (Ok u) = (refusal ≡ None) × (new ≡ done)
+TestAnswer first refusal old done new (Err Memory) = (first ≡ None) × (new ≡ old)
+TestAnswer first refusal old done new (Err e) = (refusal ≡ Some e) × (new ≡ old)
+
 -- a step that narrows the space to this one, where that is less, and nothing where the space stays
 abbrev pub IfLessStep : Option Space → Option PatchRefusal → PatchModel → PatchModel → PatchModel → Result Bool PatchRefusal → Type 0
 IfLessStep narrow refusal P done Q (Ok true) = (narrow ≢ Some (now_in P).space) × PatchAnswer refusal P done Q (Ok tt)
@@ -184,6 +224,9 @@ BanStep P j L Q r = PatchAnswer (ban_refusal P.kept j L) P (banned_by P j L) Q r
 
 abbrev pub VoidEnd : PatchModel → Narrowing → PatchModel → Result (Unit {0}) PatchRefusal → Type 0
 VoidEnd P n Q r = AnswerIf (takes_memory n) (void_refusal P n) P (ended_with P (end_by (void_by n))) Q r
+
+abbrev pub SquaresEnd : PatchModel → Multipliers → List Block → PatchModel → Result (Unit {0}) PatchRefusal → Type 0
+SquaresEnd P ms bs Q r = TestAnswer (squaring_refusal P ms bs) (squares_refusal P ms bs) P (ended_with P (void_squares ms bs)) Q r
 
 abbrev pub FalseEnd : PatchModel → PatchModel → Result (Unit {0}) PatchRefusal → Type 0
 FalseEnd P Q r = EndAnswer (false_refusal P) P (ended_with P make_false) Q r

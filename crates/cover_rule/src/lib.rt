@@ -15,6 +15,7 @@ mod patch;
 mod point;
 mod refusal;
 mod small;
+mod squaring;
 mod steps;
 mod stuck;
 mod truth;
@@ -23,7 +24,7 @@ mod workspace;
 
 pub use cover_data::{
     ClosedPatch, Closing, Combination, End, KeptPatch, Lemma, Margins, Narrowing, Options, Point,
-    State, Step,
+    Squares, State, Step,
 };
 pub use narrower::Narrower;
 pub use patch::Patch;

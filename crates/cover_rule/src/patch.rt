@@ -1,6 +1,7 @@
 // Patches.
 ghost use Rattle.std.specs.Prelude.{◌≡◌, ◌<◌, ◌↔◌, length, IfOk, IsTrue, MatchResult};
 ghost use Rattle.poly_graph.specs.ProblemViews.{problem_of};
+ghost use Rattle.cover_line.specs.Views.{blocks_of, multipliers_of};
 ghost use Rattle.cover_model.specs.Fits.{FitsProblem};
 ghost use Rattle.cover_model.specs.Narrowed.{enclosures};
 ghost use Rattle.interval_model.specs.Space.{widest};
@@ -12,7 +13,7 @@ ghost use Rattle.cover_data.specs.Runs.{IsClosed};
 ghost use Rattle.cover_rule.specs.Serves.{IsFilled, IsNumbered, sure_at_middle};
 ghost use Rattle.cover_rule.specs.Patch.{problem_in, run_at, IsRunOf, IsLemmaState, IsClosedRunOf, IsNotClosed};
 ghost use Rattle.cover_rule.specs.Narrowers.{NamesAtom, narrowing_of};
-ghost use Rattle.cover_rule.specs.Refusals.{NarrowStep, NarrowIfLessStep, UnitStep, BanStep, VoidEnd, FalseEnd, LemmaEnd, CutEnd, FlipEnd, CaseEnd, StuckEnd};
+ghost use Rattle.cover_rule.specs.Refusals.{NarrowStep, NarrowIfLessStep, UnitStep, BanStep, VoidEnd, SquaresEnd, FalseEnd, LemmaEnd, CutEnd, FlipEnd, CaseEnd, StuckEnd};
 ghost use Rattle.cover_data.specs.Views.{kept_of};
 
 use crate::narrower::Narrower;
@@ -20,8 +21,10 @@ use crate::narrowing::{copy_space, forget};
 use crate::refusal::PatchRefusal;
 use crate::truth::{find_centre, is_sure_at_middle};
 use crate::workspace::{Centre, Workspace};
-use crate::{branches, ends, steps};
+use crate::{branches, ends, squaring, steps};
 use cover_data::{ClosedPatch, KeptPatch, Lemma, Margins, State};
+use cover_line::Block;
+use dyadic::Dy;
 use hc4::follow;
 use ival::Rows;
 use poly_graph::Problem;
@@ -293,6 +296,27 @@ impl<'a> Patch<'a> {
             &mut self.kept,
             &mut self.work,
             by,
+        )
+    }
+
+    /// Ends the patch where the combination of these atoms, each with its multiplier, is above what the atoms allow when the
+    /// blocks are taken away, about the middle of the space, and the marks allow it. Memory is needed to see that.
+    pub fn squares(
+        &mut self,
+        pairs: Vec<(u32, Dy)>,
+        blocks: Vec<Block>,
+    ) -> Result<(), PatchRefusal>
+        ensures { SquaresEnd self.old (multipliers_of pairs.items) (blocks_of blocks.items)
+            self.new result }
+    {
+        squaring::squares(
+            self.alloc,
+            self.problem,
+            &self.margins,
+            &mut self.kept,
+            &mut self.work,
+            pairs,
+            blocks,
         )
     }
 

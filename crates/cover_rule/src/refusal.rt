@@ -29,6 +29,8 @@ pub enum PatchRefusal {
     /// The atoms can't be combined: one is not marked, or an equation that is marked no; or they do not ascend, a
     /// multiplier is 0, or there are none or more than the version allows.
     NotCombinable,
+    /// A line has at most 8,000 numbers.
+    TooLong,
     /// Out of memory.
     Memory,
 }

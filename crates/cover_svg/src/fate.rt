@@ -24,7 +24,7 @@ pub fn fate_by(line: &Line) -> Option<Fate>
         return None;
     };
     match rule {
-        Rule::End(Ending::Void(_)) => Some(Fate::Void),
+        Rule::End(Ending::Void(_) | Ending::Squares(_, _)) => Some(Fate::Void),
         Rule::End(Ending::False) => Some(Fate::False),
         Rule::End(Ending::By(_)) => Some(Fate::By),
         Rule::Stay(Staying::Open) => Some(Fate::Open),

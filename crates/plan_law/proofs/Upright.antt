@@ -14,7 +14,7 @@ use Rattle.cover_model.specs.OffRange.{off_range}
 use Rattle.cover_model.specs.State.{State, Loosenings, margin_of, may}
 use Rattle.cover_model.specs.Narrowed.{from_parents, own, narrowed_from, narrowed, some_empty, set_axis, with_axes, enclosures, narrowed_by}
 use Rattle.cover_model.specs.Combination.{Multipliers, Part, Expansion, expansion, range_of, part_range, allowed_range, tightened, with_axis, with_intervals, combined_about, marked_range}
-use Rattle.cover_model.specs.Rules.{Line, narrow_by, Narrowing, by_range, by_off_range, by_combination, end_by, void_by, false_form, by_lemma, mark_by, Marking, unit_atom, ban_atom, branch_by, Branching, cut_axis, flip_axis, case_atom, stay_by, open_state, stuck_atom, open_line, stuck, Left, closed, one, two, stays, can_narrow, narrowed_to, lemma_covers, can_mark, marked, can_branch, first_child, second_child, is_stuck_atom, when, pulled, voided, rule}
+use Rattle.cover_model.specs.Rules.{is_void_by_squares, Line, narrow_by, Narrowing, by_range, by_off_range, by_combination, end_by, void_by, by_squares, false_form, by_lemma, mark_by, Marking, unit_atom, ban_atom, branch_by, Branching, cut_axis, flip_axis, case_atom, stay_by, open_state, stuck_atom, open_line, stuck, Left, closed, one, two, stays, can_narrow, narrowed_to, lemma_covers, can_mark, marked, can_branch, first_child, second_child, is_stuck_atom, when, pulled, voided, rule}
 
 -- ---- intervals
 
@@ -203,6 +203,7 @@ module _ (p : Problem) (s : Loosenings) (lemmas : List State) (S : State) (u : I
   pub rule_upright : (l : Line) (Q : Type 0) → (l ≡ open_line → Q) → ((j : ℕ) → l ≡ stuck j → IsTrue (is_stuck_atom p s S j) → Q) → UprightIf Q (rule p s lemmas S l)
   rule_upright (narrow_by n) Q f g = by-cond Q (can_narrow p s S n) (pulled S (narrowed_to p s S n)) (pulled-upright Q S (narrowed_to p s S n) (narrow-upright n))
   rule_upright (end_by (void_by n)) Q f g = by-cond Q (can_narrow p s S n) (voided (narrowed_to p s S n)) (voided-upright Q (narrowed_to p s S n))
+  rule_upright (end_by (by_squares ms bs)) Q f g = by-when Q (is_void_by_squares p s S ms bs) closed (λ e. tt)
   rule_upright (end_by false_form) Q f g = by-when Q (not (may p s S)) closed (λ e. tt)
   rule_upright (end_by (by_lemma i)) Q f g = by-when Q (lemma_covers lemmas i S) closed (λ e. tt)
   rule_upright (mark_by m) Q f g = by-when Q (can_mark p s lemmas S m) (one (marked S m)) (λ e. mark-upright m)

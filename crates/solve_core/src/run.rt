@@ -1,5 +1,5 @@
 // The search: by many workers on one book, and then by the caller alone.
-ghost use Rattle.std.specs.Prelude.{◌≡◌, ◌≢◌, ◌⊎◌, ◌<◌, ◌≤◌, ◌-◌, true, false, cond, nat_le, length, map, All, IfOk, OnOk, []};
+ghost use Rattle.std.specs.Prelude.{◌≡◌, ◌≢◌, ◌⊎◌, ◌<◌, ◌≤◌, ◌-◌, true, false, cond, nat_le, length, map, All, IfOk, IfSome, OnOk, []};
 ghost use Rattle.poly_graph.specs.ProblemViews.{problem_of};
 ghost use Rattle.problem_session.specs.Session.{problems_of};
 ghost use Rattle.cover_model.specs.Carried.{GoesOnFrom};
@@ -173,11 +173,12 @@ fn finish_work<G: Gate>(
     done
 }
 
-// As `start_work` until the book has more than the first branches, and else as `finish_work`. Whether that is done.
+// As `start_work` until the book has more branches than these, and else as `finish_work`. Whether that is done.
 fn work_at_first<G: Gate>(
     alloc: Global,
     search: &mut Search,
     problem: &Problem,
+    branches: u32,
     gate: &G,
 ) -> Result<bool, AllocError>
     requires search { IsSearch search.old search.old.waiting.items }
@@ -185,12 +186,48 @@ fn work_at_first<G: Gate>(
     ensures reached { Reaches search.old.book search.new.book }
     ensures left { IfOk result (λ done. done ≡ true → LeavesDue search.new.book) }
 {
-    start_work(alloc, search, problem, Until::Beyond(FIRST_BRANCHES), gate)?;
-    if search.book.branches() > FIRST_BRANCHES {
+    start_work(alloc, search, problem, Until::Beyond(branches), gate)?;
+    if search.book.branches() > branches {
         return Ok(false);
     }
     finish_work(alloc, search, problem, gate)?;
     Ok(true)
+}
+
+// Works alone on a book of the problem until it has more branches than these, a point is kept or nothing is left to be
+// done. The book then, and whether it is done.
+fn begin<G: Gate>(
+    alloc: Global,
+    book: Book,
+    problem: &Problem,
+    branches: u32,
+    gate: &G,
+) -> Result<(Book, bool), AllocError>
+    requires { book.problem ≡ problem.now }
+    ensures reached { IfOk result (λ x. Reaches book x.0) }
+    ensures left { IfOk result (λ x. x.1 ≡ true → LeavesDue x.0) }
+{
+    let mut search = Search::resume(alloc, book)?;
+    let is_done = work_at_first(alloc, &mut search, problem, branches, gate)?;
+    Ok((search.into_book(), is_done))
+}
+
+// A book of these options that is done without a branch, if the work on the whole box comes to that.
+fn close_whole<G: Gate>(
+    alloc: Global,
+    problem: &Problem,
+    options: &Options,
+    gate: &G,
+) -> Result<Option<Book>, AllocError>
+    requires { IsWithinLimits problem.now options.now }
+    ensures reached { IfOk result (λ o. IfSome o
+        (λ b. Reaches (opening problem.now options.now) b)) }
+    ensures left { IfOk result (λ o. IfSome o (λ b. LeavesDue b)) }
+{
+    let copy = problem.try_clone(alloc)?;
+    let book = Book::new(alloc, copy, *options)?;
+    let (book, is_done) = begin(alloc, book, problem, 0, gate)?;
+    Ok(if is_done { Some(book) } else { None })
 }
 
 // Works alone at first: a problem of few boxes is done before threads start.
@@ -289,34 +326,48 @@ fn raised(book: Book) -> Book
     later
 }
 
+// The book that a search begins with, and whether it is as it opened, without lemmas.
+struct Origin {
+    book: Book,
+    is_new: bool,
+}
+
 // Searches on from a book of the problem. Where it is of version 2, the options are of version 5 and there is a choice of
-// axes, the caller works alone at first, and the search goes over to version 5 once the book has more branches.
+// axes, the caller works alone at first, and once the book has more branches, the search goes over to version 5: a book
+// that is as it opened begins anew, if its whole box is closed at once there, and else it goes on.
 fn search_in_versions<R: Threads + Wait + Sync, G: Gate + Sync>(
     rt: &R,
     alloc: Global,
-    book: Book,
+    origin: Origin,
     problem: &Problem,
     options: &Options,
     gate: &G,
 ) -> Result<Book, AllocError>
-    requires problem { book.problem ≡ problem.now }
-    requires options { book.options ≡ options_in book.options.version options.now }
+    requires problem { origin.book.problem ≡ problem.now }
+    requires options { let v = origin.book.options.version in
+        origin.book.options ≡ options_in v options.now }
     requires margins { AreMargins (margins_of options.now) }
-    ensures searched { IfOk result (IsSearched book) }
-    ensures options { IfOk result (IsInVersionOf options.now book.options.version) }
+    requires new { origin.is_new ≡ true → origin.book ≡ opening problem.now origin.book.options }
+    requires limits { origin.is_new ≡ true → IsWithinLimits problem.now options.now }
+    ensures searched { IfOk result (IsSearched origin.book) }
+    ensures options { IfOk result (IsInVersionOf options.now origin.book.options.version) }
     ensures verdict { IfOk result (λ b. verdict_of b ≢ verdict.NotYet) }
     ensures left { IfOk result (λ b. LeavesDue b) }
     ensures book { IfOk result (λ b. IsBook b) }
 {
+    let Origin { book, is_new } = origin;
     if !may_go_over(&book, problem, options) {
         let own = *book.options();
         return search_from(rt, alloc, book, problem, &own, gate);
     }
-    let mut search = Search::resume(alloc, book)?;
-    let is_done = work_at_first(alloc, &mut search, problem, gate)?;
-    let begun = search.into_book();
+    let (begun, is_done) = begin(alloc, book, problem, FIRST_BRANCHES, gate)?;
     if is_done {
         return Ok(begun);
+    }
+    if is_new {
+        if let Some(anew) = close_whole(alloc, problem, options, gate)? {
+            return Ok(anew);
+        }
     }
     search_from(rt, alloc, raised(begun), problem, options, gate)
 }
@@ -347,7 +398,11 @@ pub fn search_on<R: Threads + Wait + Sync, G: Gate + Sync>(
 {
     let problem = book.problem().try_clone(alloc)?;
     let options = book.options().in_version(LATEST);
-    search_in_versions(rt, alloc, book, &problem, &options, gate)
+    let origin = Origin {
+        book,
+        is_new: false,
+    };
+    search_in_versions(rt, alloc, origin, &problem, &options, gate)
 }
 
 /// Searches for a point of the problem, or for a cover of its declared box, from the opening book on. Where the options
@@ -357,7 +412,8 @@ pub fn search_on<R: Threads + Wait + Sync, G: Gate + Sync>(
 /// The gate is called before and after the work on each node.
 ///
 /// The search begins in version 2 of the format. Where the options are of version 5 and more than one axis is a Real one,
-/// the caller works alone at first, and once the book has more than 64 branches, the search goes on in version 5.
+/// the caller works alone at first. Once the book has more than 64 branches, the whole box is tried in version 5, and
+/// where that does not close it at once, the search goes on in version 5.
 pub fn solve<R: Threads + Wait + Sync, G: Gate + Sync>(
     rt: &R,
     alloc: Global,
@@ -379,7 +435,8 @@ pub fn solve<R: Threads + Wait + Sync, G: Gate + Sync>(
 {
     let copy = problem.try_clone(alloc)?;
     let book = Book::new(alloc, copy, options.in_version(2))?;
-    search_in_versions(rt, alloc, book, problem, options, gate)
+    let origin = Origin { book, is_new: true };
+    search_in_versions(rt, alloc, origin, problem, options, gate)
 }
 
 // The book that opens the search at the check behind that of the old book, whose problem this is: with the lemmas of
@@ -436,7 +493,11 @@ fn solve_next<R: Threads + Wait + Sync, G: Gate + Sync>(
     ensures book { IfOk result (λ b. IsBook b) }
 {
     let (problem, book) = opened;
-    search_in_versions(rt, alloc, book, &problem, options, gate)
+    let origin = Origin {
+        book,
+        is_new: false,
+    };
+    search_in_versions(rt, alloc, origin, &problem, options, gate)
 }
 
 // Searches at the first check.

@@ -275,6 +275,13 @@ const REFUSALS: &[(Told, &str)] = &[
         "certificate fault 3 RuleFails voidcomb line 9\n",
     ),
     (
+        Told::Refused(CertFault::RuleFails {
+            rule: Word::Squares,
+            line: 10,
+        }),
+        "certificate fault 3 RuleFails voidpos line 10\n",
+    ),
+    (
         Told::Refused(CertFault::Missing { line: 15 }),
         "certificate fault 4 Missing line 15\n",
     ),

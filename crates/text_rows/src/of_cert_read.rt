@@ -1,6 +1,7 @@
-// Lines and what they say, long lines, and a text cut at every place.
+// Lines and what they say, there and back, long lines, and a text cut at every place.
 use cert_read::*;
-use cover_line::{Branching, Ending, Marking, Narrowing, Rule, Staying};
+use cert_text::append_line;
+use cover_line::{Block, Branching, Ending, Factor, Marking, Narrowing, Rule, Staying};
 use dyadic::{Dy, read_dy};
 use std::alloc::{AllocError, Global};
 
@@ -34,6 +35,13 @@ enum Plain {
     Empty(u32),
 }
 
+// A block, with numbers by their texts.
+struct SaidBlock {
+    factor: Factor,
+    monomials: &'static [&'static [u32]],
+    rows: &'static [&'static [&'static str]],
+}
+
 // What a line says, with numbers by their texts.
 enum Said {
     Plain(Plain),
@@ -44,6 +52,7 @@ enum Said {
     No(&'static [u32]),
     Combine(&'static [(u32, &'static str)]),
     VoidCombine(&'static [(u32, &'static str)]),
+    Squares(&'static [(u32, &'static str)], &'static [SaidBlock]),
 }
 
 fn plain_of(line: &Line) -> Option<Plain> {
@@ -91,6 +100,57 @@ fn are_pairs(pairs: &[(u32, Dy)], said: &[(u32, &'static str)]) -> bool {
     true
 }
 
+fn are_monomials(monomials: &[Vec<u32>], said: &[&[u32]]) -> bool {
+    if monomials.len() != said.len() {
+        return false;
+    }
+    for i in 0..said.len() {
+        if monomials[i].as_slice() != said[i] {
+            return false;
+        }
+    }
+    true
+}
+
+fn is_row(row: &[Dy], said: &[&str]) -> bool {
+    if row.len() != said.len() {
+        return false;
+    }
+    for i in 0..said.len() {
+        if !is_number(row[i], said[i]) {
+            return false;
+        }
+    }
+    true
+}
+
+fn are_rows(rows: &[Vec<Dy>], said: &[&[&str]]) -> bool {
+    if rows.len() != said.len() {
+        return false;
+    }
+    for i in 0..said.len() {
+        if !is_row(&rows[i], said[i]) {
+            return false;
+        }
+    }
+    true
+}
+
+fn are_blocks(blocks: &[Block], said: &[SaidBlock]) -> bool {
+    if blocks.len() != said.len() {
+        return false;
+    }
+    for i in 0..said.len() {
+        if blocks[i].factor != said[i].factor
+            || !are_monomials(&blocks[i].monomials, said[i].monomials)
+            || !are_rows(&blocks[i].rows, said[i].rows)
+        {
+            return false;
+        }
+    }
+    true
+}
+
 fn is_said(line: &Line, said: &Said) -> bool {
     match (line, said) {
         (Line::RealInterval(low, high), Said::Interval(least, most)) => {
@@ -108,6 +168,9 @@ fn is_said(line: &Line, said: &Said) -> bool {
             Line::Rule(Rule::End(Ending::Void(Narrowing::Combine(pairs)))),
             Said::VoidCombine(wanted),
         ) => are_pairs(pairs, wanted),
+        (Line::Rule(Rule::End(Ending::Squares(pairs, blocks))), Said::Squares(wanted, said)) => {
+            are_pairs(pairs, wanted) && are_blocks(blocks, said)
+        }
         (line, Said::Plain(wanted)) => plain_of(line) == Some(*wanted),
         _ => false,
     }
@@ -161,6 +224,55 @@ const LINES: &[(&str, Said)] = &[
     ),
     ("voidcomb 0 -1b0", Said::VoidCombine(&[(0, "-1b0")])),
     ("voidcomb 2 0 2 0", Said::VoidCombine(&[(2, "0"), (2, "0")])),
+    ("voidpos 0", Said::Squares(&[], &[])),
+    ("voidpos 1 4 1b0", Said::Squares(&[(4, "1b0")], &[])),
+    (
+        "voidpos 1 4 1b0 0 1 0 -3b-2",
+        Said::Squares(
+            &[(4, "1b0")],
+            &[SaidBlock {
+                factor: Factor::One,
+                monomials: &[&[]],
+                rows: &[&["-3b-2"]],
+            }],
+        ),
+    ),
+    (
+        "voidpos 2 4 1b0 7 -3b-2 0 2 1 8 1 9 1b0 -1b0 0 1 6 3 0 1 5 2 5 6 1b0 3b0 5b0 7b0 9b0 11b0",
+        Said::Squares(
+            &[(4, "1b0"), (7, "-3b-2")],
+            &[
+                SaidBlock {
+                    factor: Factor::One,
+                    monomials: &[&[8], &[9]],
+                    rows: &[&["1b0", "-1b0"], &["0"]],
+                },
+                SaidBlock {
+                    factor: Factor::BoundOf(6),
+                    monomials: &[&[], &[5], &[5, 6]],
+                    rows: &[&["1b0", "3b0", "5b0"], &["7b0", "9b0"], &["11b0"]],
+                },
+            ],
+        ),
+    ),
+    (
+        "voidpos 0 0 0 1 3 0",
+        Said::Squares(
+            &[],
+            &[
+                SaidBlock {
+                    factor: Factor::One,
+                    monomials: &[],
+                    rows: &[],
+                },
+                SaidBlock {
+                    factor: Factor::BoundOf(3),
+                    monomials: &[],
+                    rows: &[],
+                },
+            ],
+        ),
+    ),
 ];
 
 // Whether the text's first line says this.
@@ -178,7 +290,24 @@ fn tells_lines(rt: HostRuntime) {
     }
 }
 
-const FAULTS: [(&str, LineFault); 32] = [
+// Whether what the text's one line says is written as that line again.
+fn is_written_back(alloc: Global, text: &str) -> bool {
+    let Ok(Some(line)) = first(alloc, text.as_bytes()) else {
+        return false;
+    };
+    let mut written = Vec::new(alloc);
+    append_line(&mut written, &line).is_ok()
+        && written.strip_suffix(b"\n") == Some(text.trim_end().as_bytes())
+}
+
+#[test]
+fn lines_are_written_back(rt: HostRuntime) {
+    for (text, _) in LINES {
+        assert!(rt; is_written_back(rt.alloc(), text), "{text}");
+    }
+}
+
+const FAULTS: [(&str, LineFault); 44] = [
     ("\n", LineFault::BadLine),
     ("shove 4", LineFault::BadLine),
     ("pull", LineFault::BadLine),
@@ -211,6 +340,18 @@ const FAULTS: [(&str, LineFault); 32] = [
     ("comb 3 2b0", LineFault::BadNumber),
     ("comb 03 1b0", LineFault::BadNumber),
     ("voidcomb 3 1b0 4 1b123", LineFault::BadNumber),
+    ("voidpos", LineFault::BadLine),
+    ("voidpos 2 4 1b0", LineFault::BadLine),
+    ("voidpos 4294967295 4 1b0", LineFault::BadLine),
+    ("voidpos 1 4 1b0 2 1 0 1b0", LineFault::BadLine),
+    ("voidpos 1 4 1b0 1", LineFault::BadLine),
+    ("voidpos 1 4 1b0 0 4294967295 0", LineFault::BadLine),
+    ("voidpos 1 4 1b0 0 2 0 0 1b0 1b0", LineFault::BadLine),
+    ("voidpos 4294967296 4 1b0", LineFault::BadNumber),
+    ("voidpos 1 4 2b0 2", LineFault::BadNumber),
+    ("voidpos 2 4 1b0 x", LineFault::BadNumber),
+    ("voidpos 1 4 1b0 0 1 1 1b0 1b0", LineFault::BadNumber),
+    ("voidpos 1 4 1b0 0 1 0 2b0", LineFault::BadNumber),
 ];
 
 // Whether the text's first line is refused so.

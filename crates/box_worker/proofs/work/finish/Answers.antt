@@ -17,7 +17,7 @@ part-requires c =
     let M = c.mark_conjuncts.new.patch in let F = c.make_false.new.patch in let B = c.split.new.patch in let N = c.middle_point.new.patch in let V = c.void_any.new.patch in
     let a : Attempts (false_refusal M) M (ended_with M make_false) F false = refused (false_refusal M) M (ended_with M make_false) F c.make_false.result c.if-make_false.false c.make_false.ensures in
     let open_end = c.in_ok-mark_conjuncts.ensures.open in
-    let y : B ≡ F = c.in_ok-split.ensures.same c.if-branch-2.false ∙ c.in_ok-found.ensures.same in
+    let y : B ≡ F = c.in_ok-split.ensures.same c.if-branch-3.false ∙ c.in_ok-found.ensures.same in
     let last : V ≡ N = c.void_any.ensures.same c.if-void_any.false in
     let e : V ≡ B = last ∙ c.in_ok-point.ensures.same in
     let v : V ≡ M = e ∙ y ∙ a.1 in

@@ -32,3 +32,7 @@ pub returns-in-Multipliers : goal.returns-in-Multipliers
 returns-in-Multipliers c =
     subst (λ (o : Operands). OnOk c.append_pairs.result (HasOperands c.args.text.now.items (operands_in o) c.append_pairs.new.text.items)) (sym c.in-Multipliers.is)
     (on_ok_weaker c.append_pairs.result (λ h. multiplier_operands (multipliers_of c.in-Multipliers.pairs.now) _ _ h) c.append_pairs.ensures)
+
+pub returns-in-Squares : goal.returns-in-Squares
+returns-in-Squares c =
+    subst (λ (o : Operands). OnOk c.append_squares.result (HasOperands c.args.text.now.items (operands_in o) c.append_squares.new.text.items)) (sym c.in-Squares.is) c.append_squares.ensures

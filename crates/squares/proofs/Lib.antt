@@ -1,0 +1,16 @@
+pub mod Advancing
+pub mod Copying
+pub mod Counting
+pub mod Deciding
+pub mod Factoring
+pub mod Giving
+pub mod Marking
+pub mod Pairing
+pub mod Placing
+pub mod Rowing
+pub mod Spreading
+pub mod Stepping
+pub mod Summing
+pub mod Taking
+pub mod Testing
+pub mod Unfolding

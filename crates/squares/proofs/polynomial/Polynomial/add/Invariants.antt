@@ -1,0 +1,8 @@
+use Rattle.std.proofs.Common.{◌≡◌, map}
+use Rattle.square_model.specs.Polynomial.{polynomial_sum}
+use Rattle.squares.specs.Views.{term_of, terms_of}
+use Rattle.squares.proofs.polynomial.Polynomial.add.Given as goal
+
+-- what is left to give makes the same sum
+abbrev pub invariant-loop-monomial : goal.invariant-loop-monomial
+invariant-loop-monomial l = polynomial_sum (terms_of l.self) (map term_of l.monomial-iterator) ≡ polynomial_sum (terms_of l.fn.self) (terms_of l.more)
