@@ -22,6 +22,7 @@ pub mod Results
 pub mod Rows
 pub mod RuleFits
 pub mod Sessions
+pub mod Squared
 pub mod Stands
 pub mod Stays
 pub mod Table

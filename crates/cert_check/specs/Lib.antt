@@ -15,6 +15,7 @@ pub mod Laws
 pub mod Lists
 pub mod Serving
 pub mod Sessions
+pub mod Squares
 pub mod Stages
 pub mod Stands
 pub mod States

@@ -37,6 +37,7 @@ mod point;
 mod refusal;
 mod rules;
 mod said;
+mod squares;
 mod stand;
 mod standing;
 mod state;

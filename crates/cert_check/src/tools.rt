@@ -42,8 +42,8 @@ pub struct Tools {
     pub marks: Marks,
 }
 
-// The atom of this number.
-fn atom_at(problem: &Problem, j: u32) -> Atom
+/// The atom of this number.
+pub fn atom_at(problem: &Problem, j: u32) -> Atom
     requires { j < length problem.now.atoms }
     ensures atom { atom_of result ≡ atom_at (problem_of problem.now) j }
     ensures place { result.term < length problem.now.nodes }
