@@ -16,6 +16,7 @@ together they take more than an hour:
     dpoly_rows.py       enclosures, narrowing and combinations
     dpoly_squares.py    combinations less sums of squares
     dpoly_forms.py      whether the form is true
+    dpoly_lines.py      the words of a tree's lines, and what each version has
     dpoly_checker.py    the cover and the certificate, line by line
 
 What it does not do: it is not proved. It is slower than `dpoly-check` and holds the certificate in

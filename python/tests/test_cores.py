@@ -4,7 +4,7 @@ import unittest
 from dpoly import cores, front
 from dpoly.smtlib import Reader
 
-HEAD = "dpoly 2\nmargin 20\ndelta 10\nbound none\n"
+HEAD = "dpoly 5\nmargin 20\ndelta 10\nbound none\n"
 # atoms 0 to 3
 BOUNDS = "(declare-const x Real)(declare-const y Real)(assert (<= 0 x 1))(assert (<= 0 y 1))"
 LOW, HIGH = "(assert (<= (* 1 x) (/ 1 4)))", "(>= (* 1 x) (/ 3 4))"
@@ -12,6 +12,9 @@ LOW, HIGH = "(assert (<= (* 1 x) (/ 1 4)))", "(>= (* 1 x) (/ 3 4))"
 APART = f"{BOUNDS}(assert {HIGH})(assert (<= (* 1 y) (/ 1 2))){LOW}"
 # atoms 4 or 5, and 6
 EITHER = f"{BOUNDS}(assert (or {HIGH} (>= (* 1 y) 2))){LOW}"
+# atoms 4 and 5
+SQUARES = f"{BOUNDS}(assert (<= (+ (* x x) (* (- 2) x y) (* y y) 1) 0)){LOW}"
+VOID = "voidpos 1 4 1b0 0 2 1 0 1 1 1b0 -1b0 0"
 # atoms 0 to 4
 TIGHT = ("(declare-const x Real)(assert (<= 0 x 9))(assert (<= x 1))(assert (<= x 2))"
          "(assert (>= (* x x) 2))")
@@ -29,6 +32,8 @@ ROWS = [
     (APART, f"cover 1/lemma 0/{UNIT_BOX}/yes/no/unit 4/pull 4/unit 6/void 6/"
             "tree/unit 5/by 0/end", {0, 2, 4}),
     (EITHER, "cover 0/tree/unit 6/pull 6/false/end", {0, 1, 2, 3}),
+    (SQUARES, f"cover 0/tree/unit 5/unit 4/{VOID}/end", {0, 1, 2}),
+    (SQUARES, f"cover 0/tree/unit 5/pull 5/unit 4/{VOID}/end", {0, 1, 2, 3}),
     (TIGHT, "cover 0/tree/unit 4/void 4/end", {0, 1, 3}),
     (CROSSED, "cover 0/tree/empty 0/end", {2, 3}),
 ]

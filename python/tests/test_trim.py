@@ -68,7 +68,7 @@ class Trim(unittest.TestCase):
                 self.assertEqual(plain.checker.check(SCRIPT.encode(), found), plain.checker.check(SCRIPT.encode(), certificate))
 
     def test_squares(self):
-        from dpoly import trim
+        from dpoly import coq, trim
 
         head = header(5) + "cover 0\ntree\n"
         for lines, wanted in SQUARES_ROWS:
@@ -76,6 +76,10 @@ class Trim(unittest.TestCase):
             with self.subTest(lines):
                 self.assertEqual(plain.checker.check(SQUARES.encode(), texts[0].encode())[0], 0)
                 self.assertEqual(trim.trim_fully(SQUARES.encode(), texts[0].encode()).decode(), texts[1])
+                self.assertIn("LVoidPos", coq.theorem(SQUARES.encode(), texts[0].encode()))
+                before = texts[0].replace("dpoly 5", "dpoly 2").encode()
+                self.assertRaises(coq.Refused, coq.theorem, SQUARES.encode(), before)
+                self.assertRaises(trim.Untrimmed, trim.trim, SQUARES.encode(), before)
 
     def test_command(self):
         with tempfile.TemporaryDirectory() as folder:
