@@ -45,7 +45,7 @@ fn unknown(alloc: Global, problem: &Problem) -> Result<Rows, AllocError> {
     let mut rows = Rows::new(alloc, problem.graph().len())?;
     for n in 0..problem.graph().len() {
         if n < rows.len() {
-            rows.set(n, Ival::new(Ext::NegInf, Ext::PosInf));
+            rows.set(n, Ival::everything());
         }
     }
     Ok(rows)
