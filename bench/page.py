@@ -9,7 +9,7 @@ from typing import Callable, Iterable, Optional
 
 import pictures
 import tables
-from axes import AXES
+from before import AXES, SQUARES, SQUARES_WORD
 from goals import GOALS
 from made import MEMORY, READING
 from parts import CHECK, SETS, SOLVE, SOLVED
@@ -252,18 +252,54 @@ def axes() -> Table:
     head = ['script', 'widest', 'chosen', 'times']
     many, few, rows = [], [], []
     for row in AXES:
-        if row['answer'] != 'unsat' or row['older answer'] != 'unsat':
+        times = times_splits(row)
+        if times is None:
             continue
-        older, now = int(row['older splits']), int(row['splits'])
-        times = (now + 1) / (older + 1)
-        if max(older, now) < MANY:
+        if max(int(row['older splits']), int(row['splits'])) < MANY:
             few.append(times)
             continue
         many.append(times)
-        rows.append([row['script'], count(str(older)), count(str(now)), f'{times:.2f}'])
+        rows.append([row['script'], *splits_cells(row)])
     rows.append([f'mean of these {len(many)}', '', '', shown(mean(many))])
     rows.append([f'mean of {len(few)} others, of fewer than {MANY}', '', '', shown(mean(few))])
     return head, [*rows, ['mean of all', '', '', shown(mean(many + few))]]
+
+
+def squares() -> Table:
+    """Splits of scripts without a point, without sums of squares and with them, by kind: of each
+    script that they close a box of, or that one program alone decides."""
+    head = ['kind', 'script', 'without', 'with', 'times', 'boxes closed by squares']
+    these, others, rows = [], [], []
+    for row in SQUARES:
+        if 'unsat' not in (row['answer'], row['older answer']):
+            continue
+        times = times_splits(row)
+        is_new = times is None or int(row[SQUARES_WORD]) > 0
+        if times is not None:
+            (these if is_new else others).append(times)
+        if is_new:
+            kind = kind_of((row['set'], row['script']))
+            rows.append([kind, row['script'], *splits_cells(row), count(row[SQUARES_WORD])])
+    rows.sort()
+    means = [(f'mean of these {len(these)}', these), (f'mean of {len(others)} others', others)]
+    means.append(('mean of all', these + others))
+    return head, [*rows, *([name, '', '', '', shown(mean(it)), ''] for name, it in means)]
+
+
+def times_splits(row: Row) -> Optional[float]:
+    """How many times the splits of the older program this one takes, where both decide."""
+    if row['answer'] != 'unsat' or row['older answer'] != 'unsat':
+        return None
+    return (int(row['splits']) + 1) / (int(row['older splits']) + 1)
+
+
+def splits_cells(row: Row) -> list[str]:
+    """The splits of the older program and of this one, and how many times as many."""
+    cells = []
+    for before in ('older ', ''):
+        is_solved = row[before + 'answer'] == 'unsat'
+        cells.append(count(row[before + 'splits']) if is_solved else 'open')
+    return [*cells, shown(times_splits(row))]
 
 
 def plain_table(results: Results, numbers: Iterable[str] = ()) -> Table:
@@ -303,7 +339,8 @@ def runs() -> Table:
     """When and on what the files were measured; those alike are in one row."""
     head = ['files', 'date', 'program of commit', 'machine', 'load when timed, at most']
     rows: dict[tuple[str, ...], list[str]] = {}
-    for results in (SOLVE, CHECK, POWERS, AXES, WORKERS, SMALL, MODEL, MEMORY, GOALS, READING, *CARRIED):
+    measured = [SOLVE, CHECK, POWERS, AXES, SQUARES, WORKERS, SMALL, MODEL, MEMORY, GOALS, READING]
+    for results in [*measured, *CARRIED]:
         if not results.rows:
             continue
         loads = [float(it['load']) for it in results if it['load'] not in ('', '-')]
@@ -320,6 +357,7 @@ TABLES: dict[str, Callable[[], Table]] = {
     'times': times,
     'powers': powers,
     'axes': axes,
+    'squares': squares,
     'workers': workers,
     'workers-small': workers_small,
     'workers-model': workers_model,

@@ -36,7 +36,7 @@ class Asked:
     commit: str = ''  # of the program, where its folder does not tell
     twin: str = TWIN
     rule: Optional[str] = None
-    older: Optional[str] = None  # for the part axes
+    older: Optional[str] = None  # for the parts axes and squares
     sets: Optional[str] = None
     seconds: float = 20.0  # processor seconds of one run
     most_load: float = 1.5  # above it nothing is timed

@@ -37,7 +37,8 @@ READER = Stage(0, WIDTH, "Reader: script to problem", """
     declared_box value_build problem_build problem_session script_reading script_forms""")
 SEARCH = Stage(0, HALF, "Search: problem to book", """
     solve_core box_worker cover_rule cover_book cover_data hc4 combine relaxation linear_program
-    semidefinite_program floats point_search clause_search book_lock lemma_shelf steal_pool""")
+    square_search semidefinite_program floats point_search clause_search book_lock lemma_shelf
+    steal_pool""")
 CHECKER = Stage(RIGHT, HALF, "Checker: certificate to verdict", """
     cert_read cert_check plain_eval cert_least goal_limit""")
 WRITER = Stage(0, HALF, "Writer: book to certificate", "cert_text")

@@ -1,7 +1,7 @@
 use Rattle.std.specs.Prelude.{ℕ, ◌<◌, length}
 use Rattle.std.proofs.Common.{get_or}
 use Rattle.dyadic.specs.declared.dy.Dy.{Dy}
-use Rattle.square_rows.proofs.of_squares.are_atoms.Given as goal
+use Rattle.square_rows.proofs.made.are_atoms.Given as goal
 
 -- those before this one are
 abbrev pub invariant-loop-i : goal.invariant-loop-i
