@@ -1,3 +1,4 @@
+pub mod Axes
 pub mod Carries
 pub mod Changed
 pub mod Commit

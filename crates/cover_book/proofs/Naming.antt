@@ -6,22 +6,24 @@ use Rattle.std.proofs.lemmas.Bool.{le-leb}
 use Rattle.std.proofs.lemmas.Bool.Decides.{eqb_tells}
 use Rattle.std.proofs.lemmas.List.{length-set}
 use Rattle.dyadic.proofs.Equal.{both_true, both_pass}
-use Rattle.interval_model.specs.Space.{Domain, real_domain, bool_domain, Space, is_upright_domain, is_upright, test_axis, strictly_inside, is_undecided}
+use Rattle.interval_model.specs.Space.{Domain, real_domain, bool_domain, Space, middle, is_upright_domain, is_upright, strictly_inside, is_undecided}
 use Rattle.cover_model.specs.Space.{IsGridSpace}
 use Rattle.poly_graph.specs.Problem.{Declared, real_between, any_bool, Axis, Problem, IsProblem, atom_at}
 use Rattle.poly_graph.specs.Marks.{Mark, is_yes, is_no, mark_at, undecided_in, marked_yes, marked_no}
-use Rattle.cover_model.specs.State.{State, Loosenings, in_yes, in_no, undecided, with_space}
-use Rattle.cover_model.specs.Rules.{Line, narrow_by, end_by, mark_by, branch_by, stay_by, Narrowing, by_range, by_off_range, by_combination, void_by, by_squares, false_form, by_lemma, Marking, unit_atom, ban_atom, Branching, cut_axis, flip_axis, case_atom, open_state, stuck_atom, Left, closed, one, stays, rule, when, pulled, voided, can_narrow, narrowed_to, has_version_2, is_one_sided, in_no_one_sided, can_push, is_combination, are_combinable, can_combine, can_mark, marked, can_branch, is_stuck_atom}
+use Rattle.cover_model.specs.State.{State, Loosenings, margin_of, in_yes, in_no, undecided, with_space}
+use Rattle.cover_model.specs.Rules.{Block, Line, narrow_by, end_by, mark_by, branch_by, stay_by, Narrowing, by_range, by_off_range, by_combination, void_by, by_squares, false_form, by_lemma, Marking, unit_atom, ban_atom, Branching, cut_axis, flip_axis, case_atom, open_state, stuck_atom, Left, closed, one, stays, rule, when, pulled, voided, can_narrow, narrowed_to, has_version_2, has_version_5, is_void_by_squares, is_one_sided, in_no_one_sided, can_push, is_combination, are_combinable, can_combine, can_mark, marked, can_branch, is_stuck_atom}
 use Rattle.cover_model.specs.Honest.{is_honest, not_shown, settled, is_small, none_below}
 use Rattle.cover_model.specs.Fits.{FitsAxis, FitsAxes, FitsProblem}
 use Rattle.cover_model.proofs.Stuck.{some_atom_is_stuck}
-use Rattle.cert_model.specs.Due.{names_well, is_atom, are_atoms}
-use Rattle.cover_model.specs.Combination.{Multipliers}
+use Rattle.cert_model.specs.Due.{names_well, is_atom, are_atoms, are_blocks_there}
+use Rattle.cover_model.specs.Combination.{Multipliers, marked_range}
+use Rattle.square_model.specs.Positive.{is_positive}
 use Rattle.cover_data.specs.declared.margins.Margins.{Margins}
 use Rattle.cover_data.specs.Margins.{loosenings_of}
 use Rattle.cover_data.specs.Models.{KeptModel}
 use Rattle.cover_data.specs.Runs.{StepsLead, AreKept, IsEnding, IsRun}
 use Rattle.cover_book.specs.Names.{RunNamesWell}
+use Rattle.cover_book.proofs.Axes.{axis_there, positive_there}
 
 -- ---- what marks and tests say of numbers
 
@@ -39,11 +41,6 @@ pub undecided_below : (marks : List Mark) (j : ℕ) → IsTrue (undecided_in mar
 undecided_below [] j h = absurd (true≢false (sym h))
 undecided_below (m ∷ marks) zero h = omega arith
 undecided_below (m ∷ marks) (suc j) h = omega (arith, undecided_below marks j h)
-
-tested-below : (f : Domain → Bool) (axis : ℕ) (space : Space) → IsTrue (test_axis f axis space) → axis < length space
-tested-below f axis [] h = absurd (true≢false (sym h))
-tested-below f zero (d ∷ space) h = omega arith
-tested-below f (suc axis) (d ∷ space) h = omega (arith, tested-below f axis space h)
 
 pub axes_length : (axes : List Axis) (space : Space) → FitsAxes axes space → length space ≡ length axes
 axes_length [] [] h = refl
@@ -166,13 +163,22 @@ module _ (p : Problem) (g : IsProblem p) (m : Margins) (lemmas : List State) whe
 
   -- a branch names an axis or an atom that is there
   branching-names : (S : State) → FitsProblem p S → (b : Branching) → IsTrue (can_branch S b) → IsTrue (names_well p (branch_by b))
-  branching-names S f (cut_axis axis c) e = le-leb (suc axis) (length p.axes) (omega (arith, axes_length p.axes S.space f.axes, tested-below (strictly_inside c) axis S.space e))
-  branching-names S f (flip_axis axis) e = le-leb (suc axis) (length p.axes) (omega (arith, axes_length p.axes S.space f.axes, tested-below is_undecided axis S.space e))
+  branching-names S f (cut_axis axis c) e = axis_there p S.space (axes_length p.axes S.space f.axes) (strictly_inside c) axis e
+  branching-names S f (flip_axis axis) e = axis_there p S.space (axes_length p.axes S.space f.axes) is_undecided axis e
   branching-names S f (case_atom j) e = atom-there S j f.marks (undecided_below S.marks j e)
+
+  -- squares name atoms and axes that are there
+  squares-name : (S : State) → length S.space ≡ length p.axes → (ms : Multipliers) (bs : List Block) → IsTrue (is_void_by_squares p s S ms bs) → IsTrue (names_well p (end_by (by_squares ms bs)))
+  squares-name S n ms bs h =
+      let a = both_true (has_version_5 s && can_combine p s S ms) (is_positive p (marked_range p (margin_of s) S.marks) S.space (middle S.space) ms bs) h in
+      both_pass (are_atoms p ms) (are_blocks_there p bs) (combined-there S ms (both_true (has_version_5 s) (can_combine p s S ms) a.0).1)
+      (positive_there p S.space n (marked_range p (margin_of s) S.marks) (middle S.space) ms bs a.1)
 
   end-names : (S : State) → FitsProblem p S → IsGridSpace S.space → (l : Line) → IsEnding (rule p s lemmas S l) → IsTrue (is_honest p m.least_bits s S l) → IsTrue (names_well p l)
   end-names S f grid (narrow_by n) e h = (narrowing-names S f.marks n (ending-cond (can_narrow p s S n) _ e)).0
   end-names S f grid (end_by (void_by n)) e h = (narrowing-names S f.marks n (ending-cond (can_narrow p s S n) _ e)).1
+  end-names S f grid (end_by (by_squares ms bs)) e h =
+      squares-name S (axes_length p.axes S.space f.axes) ms bs (ending-true (is_void_by_squares p s S ms bs) closed e)
   end-names S f grid (end_by false_form) e h = refl
   end-names S f grid (end_by (by_lemma i)) e h = refl
   end-names S f grid (mark_by x) e h = (marking-names S f.marks x (ending-true _ _ e)).0
