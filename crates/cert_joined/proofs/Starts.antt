@@ -1,5 +1,5 @@
 -- The first lines of an accepted certificate of a cover.
-use Rattle.std.proofs.Common.{◌≡◌, ℕ, suc, List, [], ◌∷◌, map, Bool, true, false, Option, Some, None, IsTrue, nat_eq, nat_le, drop, length, refl, ap, sym, subst, ◌∙◌}
+use Rattle.std.proofs.Common.{◌≡◌, ℕ, suc, List, ◌∷◌, map, Bool, true, false, Option, Some, None, IsTrue, nat_le, drop, length, refl, ap, sym, subst, ◌∙◌}
 use Rattle.std.proofs.lemmas.Bool.{eqb-true, le-leb}
 use Rattle.poly_graph.specs.Problem.{Problem}
 use Rattle.cover_model.specs.State.{Loosenings}

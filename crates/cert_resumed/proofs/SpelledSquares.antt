@@ -4,7 +4,7 @@ use Rattle.std.specs.Prelude.{decimal}
 use Rattle.std.specs.List.{AllByRecursion}
 use Rattle.dyadic.specs.Rounding.{Dyadic}
 use Rattle.dyadic.specs.NumberText.{number_spelling}
-use Rattle.cover_line.specs.Line.{Multipliers, Factor, no_factor, bound_of, Block}
+use Rattle.cover_line.specs.Line.{Multipliers, Factor, bound_of, Block}
 use Rattle.cover_line.specs.Words.{of_squares}
 use Rattle.cert_read.specs.CertLine.{count_of, dyadic_of, Taken, taken, ill_formed, no_number, and_take, taken_if, take_count, take_dyadic, take_many, take_pair, take_monomial, take_rows, factor_by, take_factor, take_block_of, take_block, take_blocks, take_squares}
 use Rattle.cert_read.specs.LineText.{pair_words, factor_words, monomial_words, row_words, block_words, operand_words, IsCount, IsSpelledNumber, IsSpelledPair, IsSpelledFactor, IsSpelledMonomial, AreSpelledRows, IsSpelledBlock, AreSpelledOperands}

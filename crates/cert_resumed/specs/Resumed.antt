@@ -3,7 +3,7 @@
 use Rattle.std.specs.Prelude.{◌≡◌, ◌≤◌, ◌-◌, ◌%◌, ℕ, suc, List, [], ◌∷◌, ◌++◌, Bool, true, false, cond, Option, None, IsTrue, length, map, drop, nat_eq, sum_by}
 use Rattle.poly_graph.specs.Problem.{Problem, first_crossed}
 use Rattle.cover_model.specs.State.{State, Loosenings, in_version}
-use Rattle.cover_model.specs.Rules.{Line, stuck, stay_by}
+use Rattle.cover_model.specs.Rules.{Line, stay_by}
 use Rattle.cover_model.specs.Derivation.{Tree, leaf, tree_lines, Lawful}
 use Rattle.cert_read.specs.CertLine.{CertLine, version, margin, delta, bound, cover, tree_word, end_word, line, parsed}
 use Rattle.cert_read.specs.Lines.{lines_of}

@@ -1,5 +1,5 @@
 -- What a rule leaves of a state whose sides are in order has its sides in order.
-use Rattle.std.proofs.Common.{◌≡◌, inl, inr, ℕ, suc, zero, List, [], ◌∷◌, Bool, true, false, not, ◌&&◌, cond, IsTrue, Option, Some, None, refl, sym, subst, true≢false, nat_eq}
+use Rattle.std.proofs.Common.{◌≡◌, inl, inr, ℕ, suc, zero, List, [], ◌∷◌, Bool, true, false, not, cond, IsTrue, Option, Some, None, refl, sym, subst, true≢false, nat_eq}
 use Rattle.dyadic.specs.Fraction.{at_most}
 use Rattle.dyadic.specs.Rounding.{Dyadic, exact, Ext, below_all, finite, above_all, ext_at_most}
 use Rattle.dyadic.specs.End.{greater_ext, lesser_ext}
