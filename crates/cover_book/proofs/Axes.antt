@@ -1,5 +1,5 @@
 -- The axes that a state's tests and squares name are there.
-use Rattle.std.proofs.Common.{◌≡◌, ℕ, zero, suc, ◌<◌, List, [], ◌∷◌, length, Bool, true, false, not, ◌&&◌, nat_lt, nat_le, IsTrue, refl, sym, true≢false, arith}
+use Rattle.std.proofs.Common.{◌≡◌, ℕ, zero, suc, ◌<◌, List, [], ◌∷◌, length, Bool, not, ◌&&◌, nat_lt, nat_le, IsTrue, refl, sym, true≢false, arith}
 use Rattle.std.proofs.lemmas.Bool.{le-leb}
 use Rattle.dyadic.proofs.Equal.{both_true, both_pass}
 use Rattle.interval_model.specs.Interval.{Interval}
