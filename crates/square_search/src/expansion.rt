@@ -2,9 +2,9 @@
 use crate::candidates::{Boxed, Candidate, candidates_of};
 use crate::closed::are_closed;
 use crate::marks::{has_product, marks_under};
-use crate::numbers::{greater, is_moderate, power_above, size};
+use crate::numbers::{greater, is_moderate, power_above};
 use crate::sides::Sides;
-use floats::span_of_interval;
+use floats::{size, span_of_interval};
 use squares::{Budget, Polynomial, expand_nodes};
 use std::alloc::{AllocError, Global};
 

@@ -1,4 +1,6 @@
 // Marks at the nodes that stand under candidates.
+ghost use Rattle.std.specs.Prelude.{◌≡◌, false, get_or};
+
 use crate::candidates::Candidate;
 use poly_graph::{Graph, Node};
 use std::alloc::{AllocError, Global};
@@ -12,7 +14,10 @@ fn mark(marks: &mut [bool], n: u32) {
 }
 
 /// Whether a node is marked.
-pub fn is_marked(marks: &[bool], n: usize) -> bool {
+pub fn is_marked(marks: &[bool], n: u32) -> bool
+    ensures { result ≡ get_or marks.now n false }
+{
+    let n = n as usize;
     n < marks.len() && marks[n]
 }
 
@@ -31,9 +36,9 @@ fn mark_children(marks: &mut [bool], node: Node) {
 // Marks all that stands under marked nodes.
 fn mark_under(graph: &Graph, marks: &mut [bool]) {
     for above in 0..graph.len() {
-        let n = graph.len() - 1 - above;
+        let n = (graph.len() - 1 - above) as u32;
         if is_marked(marks, n) {
-            mark_children(marks, graph.node(n as u32));
+            mark_children(marks, graph.node(n));
         }
     }
 }
@@ -69,7 +74,8 @@ fn is_product(graph: &Graph, node: Node) -> bool {
 /// Whether such a node is marked.
 pub fn has_product(graph: &Graph, marks: &[bool]) -> bool {
     for n in 0..graph.len() {
-        if is_marked(marks, n) && is_product(graph, graph.node(n as u32)) {
+        let n = n as u32;
+        if is_marked(marks, n) && is_product(graph, graph.node(n)) {
             return true;
         }
     }

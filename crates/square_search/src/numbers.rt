@@ -4,11 +4,6 @@ use std::num::{f64_from_bits_with_nan, f64_to_bits_with_nan};
 /// Adding this rounds a float of less than 2 to the power of 51 to a whole number.
 const ROUNDER: f64 = 6755399441055744.0;
 
-/// The size of a number.
-pub fn size(x: f64) -> f64 {
-    if x < 0.0 { -x } else { x }
-}
-
 /// The greater of two numbers; the first where the second is none.
 pub fn greater(a: f64, b: f64) -> f64 {
     if b > a { b } else { a }

@@ -1,9 +1,8 @@
 // What is left of the programme's rows with rounded numbers.
-use crate::numbers::size;
 use crate::places::{Base, Entry, Place};
 use crate::rounding::Rounded;
 use crate::statement::Statement;
-use floats::{add, at};
+use floats::{add, at, size};
 use std::alloc::{AllocError, Global};
 
 /// What is left has to be more than this part of all coefficients' sizes.

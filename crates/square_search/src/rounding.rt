@@ -1,12 +1,12 @@
 // What was found with few bits, and as a line.
 use crate::columns::Column;
-use crate::numbers::{greater, power, power_above, rounded, size};
+use crate::numbers::{greater, power, power_above, rounded};
 use crate::places::{Base, Place};
 use crate::solution::Solution;
 use crate::statement::Statement;
 use cover_line::Block;
 use dyadic::Dy;
-use floats::number;
+use floats::{number, size};
 use std::alloc::{AllocError, Global};
 
 /// A line that may close the box.
