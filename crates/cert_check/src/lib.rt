@@ -37,7 +37,7 @@ mod point;
 mod refusal;
 mod rules;
 mod said;
-mod squares;
+mod squaring;
 mod stand;
 mod standing;
 mod state;

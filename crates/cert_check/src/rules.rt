@@ -15,7 +15,7 @@ use crate::lemmas::Lemmas;
 use crate::loosenings::Loosenings;
 use crate::moves::{ban, unit};
 use crate::narrowing::{emptied, narrowed};
-use crate::squares::squares;
+use crate::squaring::squares;
 use crate::state::State;
 use crate::tools::Tools;
 use cover_line::{Branching, Ending, Marking, Rule, Staying};

@@ -4,7 +4,7 @@ use Rattle.ival.specs.Views.{interval_of}
 use Rattle.poly_graph.specs.ProblemViews.{problem_of}
 use Rattle.cert_check.specs.Squares.{range_at}
 use Rattle.cert_check.specs.States.{state_of, loosenings_of}
-use Rattle.cert_check.proofs.squares.ranges_of.Given as goal
+use Rattle.cert_check.proofs.squaring.ranges_of.Given as goal
 
 -- those before are there
 abbrev pub invariant-loop-pair : goal.invariant-loop-pair

@@ -7,7 +7,7 @@ use Rattle.cert_check.specs.Squares.{range_at}
 use Rattle.cert_check.specs.States.{state_of, loosenings_of}
 use Rattle.cert_check.proofs.Pairs.{atoms_all}
 use Rattle.cert_check.proofs.Squared.{ranges_count, told_at}
-use Rattle.cert_check.proofs.squares.is_positive_at.Goals as goal
+use Rattle.cert_check.proofs.squaring.is_positive_at.Goals as goal
 
 pub ranges_of-requires-clause-atoms : goal.ranges_of-requires-clause-atoms
 ranges_of-requires-clause-atoms c = atoms_all (problem_of c.args.problem.now) c.args.pairs.now c.requires.atoms
