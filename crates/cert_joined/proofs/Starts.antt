@@ -3,7 +3,7 @@ use Rattle.std.proofs.Common.{◌≡◌, ℕ, suc, List, ◌∷◌, map, Bool, t
 use Rattle.std.proofs.lemmas.Bool.{eqb-true, le-leb}
 use Rattle.poly_graph.specs.Problem.{Problem}
 use Rattle.cover_model.specs.State.{Loosenings}
-use Rattle.cert_read.specs.CertLine.{CertLine, bound, delta, line, margin, parsed, version}
+use Rattle.cert_read.specs.CertLine.{CertLine, bound, delta, margin, parsed, version}
 use Rattle.cert_read.specs.LineText.{IsSpelled, line_text}
 use Rattle.cert_read.specs.Lines.{lines_of}
 use Rattle.cert_read.proofs.Spelled.{spelled_line}
