@@ -19,6 +19,7 @@ ghost use Rattle.cover_data.specs.Views.{kept_of};
 use crate::narrower::Narrower;
 use crate::narrowing::{copy_space, forget};
 use crate::refusal::PatchRefusal;
+use crate::squaring::Difference;
 use crate::truth::{find_centre, is_sure_at_middle};
 use crate::workspace::{Centre, Workspace};
 use crate::{branches, ends, squaring, steps};
@@ -315,8 +316,7 @@ impl<'a> Patch<'a> {
             &self.margins,
             &mut self.kept,
             &mut self.work,
-            pairs,
-            blocks,
+            Difference { pairs, blocks },
         )
     }
 
