@@ -302,11 +302,7 @@ impl<'a> Patch<'a> {
 
     /// Ends the patch where the combination of these atoms, each with its multiplier, is above what the atoms allow when the
     /// blocks are taken away, about the middle of the space, and the marks allow it. Memory is needed to see that.
-    pub fn squares(
-        &mut self,
-        pairs: Vec<(u32, Dy)>,
-        blocks: Vec<Block>,
-    ) -> Result<(), PatchRefusal>
+    pub fn squares(&mut self, pairs: Vec<(u32, Dy)>, blocks: Vec<Block>) -> Result<(), PatchRefusal>
         ensures { SquaresEnd self.old (multipliers_of pairs.items) (blocks_of blocks.items)
             self.new result }
     {

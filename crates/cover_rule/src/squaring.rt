@@ -162,6 +162,9 @@ pub fn squares(
 {
     test_end(alloc, problem, margins, kept, work, &difference)?;
     let Difference { pairs, blocks } = difference;
-    end_by(kept, End::Close(Closing::Squares(Squares { pairs, blocks })));
+    end_by(
+        kept,
+        End::Close(Closing::Squares(Squares { pairs, blocks })),
+    );
     Ok(())
 }
