@@ -19,6 +19,7 @@ ghost use Rattle.cover_data.specs.Views.{kept_of};
 use crate::narrower::Narrower;
 use crate::narrowing::{copy_space, forget};
 use crate::refusal::PatchRefusal;
+use crate::squaring::Difference;
 use crate::truth::{find_centre, is_sure_at_middle};
 use crate::workspace::{Centre, Workspace};
 use crate::{branches, ends, squaring, steps};
@@ -301,11 +302,7 @@ impl<'a> Patch<'a> {
 
     /// Ends the patch where the combination of these atoms, each with its multiplier, is above what the atoms allow when the
     /// blocks are taken away, about the middle of the space, and the marks allow it. Memory is needed to see that.
-    pub fn squares(
-        &mut self,
-        pairs: Vec<(u32, Dy)>,
-        blocks: Vec<Block>,
-    ) -> Result<(), PatchRefusal>
+    pub fn squares(&mut self, pairs: Vec<(u32, Dy)>, blocks: Vec<Block>) -> Result<(), PatchRefusal>
         ensures { SquaresEnd self.old (multipliers_of pairs.items) (blocks_of blocks.items)
             self.new result }
     {
@@ -315,8 +312,7 @@ impl<'a> Patch<'a> {
             &self.margins,
             &mut self.kept,
             &mut self.work,
-            pairs,
-            blocks,
+            Difference { pairs, blocks },
         )
     }
 

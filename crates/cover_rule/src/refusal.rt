@@ -27,9 +27,9 @@ pub enum PatchRefusal {
     /// The atom is not marked no, or is an equation.
     NotNo,
     /// The atoms can't be combined: one is not marked, or an equation that is marked no; or they do not ascend, a
-    /// multiplier is 0, or there are none or more than the version allows.
+    /// multiplier is 0, or there are none or more than the version allows. Or the version has no ends by squares.
     NotCombinable,
-    /// A line has at most 8,000 numbers.
+    /// There are more than 8,000 numbers, as a line has at most.
     TooLong,
     /// Out of memory.
     Memory,

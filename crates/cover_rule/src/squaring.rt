@@ -39,6 +39,13 @@ fn can_square(problem: &Problem, margins: &Margins, state: &State, pairs: &[(u32
     margins.version >= 5 && can_combine(problem, margins, state, pairs)
 }
 
+/// Atoms, each with its multiplier, and the blocks that are taken away from their combination.
+#[derive(Drop)]
+pub struct Difference {
+    pub pairs: Vec<(u32, Dy)>,
+    pub blocks: Vec<Block>,
+}
+
 // The ranges of the atoms' values, by their marks.
 fn ranges_of(alloc: Global, combination: &Combination<'_>) -> Result<Vec<Ival>, AllocError>
     requires loosen { combination.now.loosen ≤ 120 }
@@ -56,40 +63,44 @@ fn ranges_of(alloc: Global, combination: &Combination<'_>) -> Result<Vec<Ival>, 
     Ok(ranges)
 }
 
-// Whether the combination of these atoms without the blocks, about the middle of the state's space, is above what the atoms
-// allow.
+// Whether the difference, about the middle of the state's space, is above what the atoms allow.
 fn is_positive_at(
     alloc: Global,
     problem: &Problem,
     margins: &Margins,
     state: &State,
-    pairs: &[(u32, Dy)],
-    blocks: &[Block],
+    difference: &Difference,
     middle: &Space,
 ) -> Result<bool, AllocError>
     requires margins { AreMargins margins.now }
     requires state { FitsProblem (problem_of problem.now) state.now }
-    requires may { let ms = multipliers_of pairs.now in
+    requires may { let ms = multipliers_of difference.now.pairs.items in
         IsTrue (can_combine (problem_of problem.now) (loosenings_of margins.now) state.now ms) }
     requires middle { space_of middle.now ≡ middle_space state.now.space }
-    ensures { let ms = multipliers_of pairs.now in
+    ensures { let ms = multipliers_of difference.now.pairs.items in
+        let bs = blocks_of difference.now.blocks.items in
         let s = loosenings_of margins.now in
-        IfOk result (λ b. b ≡
-        is_positive_at (problem_of problem.now) s state.now ms (blocks_of blocks.now)) }
+        IfOk result (λ b. b ≡ is_positive_at (problem_of problem.now) s state.now ms bs) }
 {
     let combination = Combination {
         problem,
         loosen: margins.margin_bits,
         lits: state.lits(),
-        multipliers: pairs,
+        multipliers: &difference.pairs,
     };
     let ranges = ranges_of(alloc, &combination)?;
     let combination = squares::Combination {
         problem,
-        multipliers: pairs,
+        multipliers: &difference.pairs,
         ranges: &ranges,
     };
-    is_positive(alloc, &combination, blocks, state.space(), middle)
+    is_positive(
+        alloc,
+        &combination,
+        &difference.blocks,
+        state.space(),
+        middle,
+    )
 }
 
 // Tells whether the patch may be ended so.
@@ -99,62 +110,61 @@ fn test_end(
     margins: &Margins,
     kept: &KeptPatch,
     work: &mut Workspace,
-    pairs: &[(u32, Dy)],
-    blocks: &[Block],
+    difference: &Difference,
 ) -> Result<(), PatchRefusal>
     requires held { IsHeld problem.now margins.now kept.now work.old }
     ensures told { let P = patch_of problem.now margins.now kept.now in
-        let ms = multipliers_of pairs.now in
-        let bs = blocks_of blocks.now in
+        let ms = multipliers_of difference.now.pairs.items in
+        let bs = blocks_of difference.now.blocks.items in
         IsTold (squaring_refusal P ms bs) (squares_refusal P ms bs) result }
-    ensures shaped { OnOk result
-        (IsTrue (list_all (λ b. are_rows b.monomials b.rows) (blocks_of blocks.now))) }
-    ensures few { OnOk result
-        (all_numbers (multipliers_of pairs.now) (blocks_of blocks.now) ≤ most_numbers) }
+    ensures shaped { let bs = blocks_of difference.now.blocks.items in
+        OnOk result (IsTrue (list_all (λ b. are_rows b.monomials b.rows) bs)) }
+    ensures few { let ms = multipliers_of difference.now.pairs.items in
+        let bs = blocks_of difference.now.blocks.items in
+        OnOk result (all_numbers ms bs ≤ most_numbers) }
     ensures ready { IsReady problem.now margins.now kept.now.reached.space work.new }
 {
     if kept.end.is_some() {
         return Err(PatchRefusal::Ended);
     }
     let state = &kept.reached;
-    if !can_square(problem, margins, state, pairs) {
+    if !can_square(problem, margins, state, &difference.pairs) {
         return Err(PatchRefusal::NotCombinable);
     }
-    if !are_few(pairs, blocks) {
+    if !are_few(&difference.pairs, &difference.blocks) {
         return Err(PatchRefusal::TooLong);
     }
     find_centre(problem, state.space(), &mut work.centre);
     let middle = &work.centre.middle;
-    match is_positive_at(alloc, problem, margins, state, pairs, blocks, middle) {
+    match is_positive_at(alloc, problem, margins, state, difference, middle) {
         Ok(true) => Ok(()),
         Ok(false) => Err(PatchRefusal::NotFalse),
         Err(_) => Err(PatchRefusal::Memory),
     }
 }
 
-/// Ends the patch where the combination of these atoms without the blocks is above what the atoms allow, and the marks allow
-/// it.
+/// Ends the patch where the difference is above what the atoms allow, and the marks allow it.
 pub fn squares(
     alloc: Global,
     problem: &Problem,
     margins: &Margins,
     kept: &mut KeptPatch,
     work: &mut Workspace,
-    pairs: Vec<(u32, Dy)>,
-    blocks: Vec<Block>,
+    difference: Difference,
 ) -> Result<(), PatchRefusal>
     requires held { IsHeld problem.now margins.now kept.old work.old }
     ensures answer { let P = patch_of problem.now margins.now in
-        let ms = multipliers_of pairs.items in
-        SquaresEnd (P kept.old) ms (blocks_of blocks.items) (P kept.new) result }
+        let ms = multipliers_of difference.pairs.items in
+        let bs = blocks_of difference.blocks.items in
+        SquaresEnd (P kept.old) ms bs (P kept.new) result }
     ensures reached { kept.new.reached ≡ kept.old.reached }
     ensures ready { IsReady problem.now margins.now kept.old.reached.space work.new }
 {
-    match test_end(alloc, problem, margins, kept, work, &pairs, &blocks) {
-        Ok(()) => {
-            end_by(kept, End::Close(Closing::Squares(Squares { pairs, blocks })));
-            Ok(())
-        }
-        Err(refusal) => Err(refusal),
-    }
+    test_end(alloc, problem, margins, kept, work, &difference)?;
+    let Difference { pairs, blocks } = difference;
+    end_by(
+        kept,
+        End::Close(Closing::Squares(Squares { pairs, blocks })),
+    );
+    Ok(())
 }
