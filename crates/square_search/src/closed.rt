@@ -10,7 +10,8 @@ use poly_graph::{Graph, Node};
 
 // Whether a node's children are marked.
 fn has_marked_children(node: Node, marks: &[bool]) -> bool
-    ensures { IsTrue result → (i : ℕ) → has_child i (node_of node) ≡ true → get_or marks.now i false ≡ true }
+    ensures { IsTrue result → (i : ℕ) → has_child i (node_of node) ≡ true →
+        get_or marks.now i false ≡ true }
 {
     match node {
         Node::Const(_) | Node::Var(_) => true,

@@ -8,6 +8,9 @@ use crate::sides::Sides;
 use squares::Budget;
 use std::alloc::{AllocError, Global};
 
+/// A step of an expansion, which looks a monomial up, takes about as long as so many of a turn.
+const EXPANSION_WEIGHT: u64 = 512;
+
 /// What may be proposed of a box: its atoms, the sets of them that are not yet tried, the last first, and the one that is.
 #[derive(Drop)]
 pub struct Proposals {
@@ -57,7 +60,9 @@ impl Proposals {
             sides,
             sets: Vec::new(alloc),
             attempt: None,
-            steps: all.saturating_sub(budget.left),
+            steps: all
+                .saturating_sub(budget.left)
+                .saturating_mul(EXPANSION_WEIGHT),
             most_steps: boxed.most_steps,
         };
         proposals.begin(alloc)?;
@@ -101,8 +106,8 @@ impl Proposals {
         Ok(None)
     }
 
-    /// How many steps were taken up to now, as a measure of time: those of the expansion, and for each turn a sixth of the cube
-    /// of its rows, and half the fourth power of each block's size.
+    /// How many steps were taken up to now, as a measure of time: 512 for each of the expansion, and for each turn a sixth of
+    /// the cube of its rows, and half the fourth power of each block's size.
     pub fn steps(&self) -> u64 {
         match &self.attempt {
             None => self.steps,
