@@ -7,7 +7,7 @@ use problem_build::read_problem;
 use squares::Combination;
 use std::alloc::Global;
 
-// A script, atoms with their multipliers, up to where the atom's value may lie, blocks, each with how often it stands there, and
+// A script, atoms with their multipliers, up to where the atom's value may lie, blocks, each with its number of times, and
 // whether the line is positive.
 struct Row {
     what: &'static str,
@@ -441,7 +441,7 @@ const ROWS: [Row; 29] = [
         blocks: &[(1596, NOUGHT), (3, LONGER_NOUGHT)],
         positive: false,
     },
-    // 3 steps for each of 10 sums, 4, 8, .., 1,024 for the products, 1,024 each for the multiplier, for the pair's sum, for each
+    // 3 steps for each of 10 sums; 4, 8, .., 1,024 for the products; 1,024 for the multiplier, for the pair's sum, for each
     // of 1,018 blocks and for the range
     Row {
         what: "1,048,576 steps",
