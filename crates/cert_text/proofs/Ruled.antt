@@ -1,7 +1,6 @@
 -- Lines of trees are appended by their first words and their operands.
-use Rattle.std.proofs.Common.{◌≡◌, ℕ, ◌+◌, ◌*◌, ◌<◌, ◌≤◌, List, [], ◌∷◌, ◌++◌, length, length-append, append_assoc, refl, ap, ap₂, sym, ◌∙◌, subst, arith}
+use Rattle.std.proofs.Common.{◌≡◌, ℕ, ◌≤◌, List, [], ◌∷◌, ◌++◌, length, length-append, append_assoc, refl, ap, ap₂, sym, ◌∙◌, subst, arith}
 use Rattle.std.specs.Prelude.{decimal}
-use Rattle.std.specs.List.{AllByRecursion}
 use Rattle.std.proofs.lemmas.List.{append-nil}
 use Rattle.dyadic.specs.Rounding.{Dyadic}
 use Rattle.dyadic.specs.NumberText.{number_spelling}
@@ -9,7 +8,6 @@ use Rattle.cover_line.specs.Line.{Multipliers, Line}
 use Rattle.cover_line.specs.Words.{RuleWord, empty_word, pull_word, unit_word, ban_word, void_word, push_word, void_no_word, false_word, by_word, cut_word, flip_word, case_word, open_word, stuck_word, combine_word, void_combine_word, void_squares_word, word_text, word_of, Operands, of_nothing, of_atom, of_lemma, of_atom_lemma, of_axis, of_axis_place, of_multipliers, operands_of}
 use Rattle.cert_read.specs.CertLine.{rule_line}
 use Rattle.cert_read.specs.LineText.{spaced, line_text, pair_words, operand_words, AreSpelledOperands, IsCount}
-use Rattle.cert_read.specs.Lines.{longest_line}
 use Rattle.cert_model.specs.Accepted.{certificate_text}
 use Rattle.cert_text.specs.Lines.{HasAppended, HasPairs, paired_off}
 use Rattle.cert_text.specs.Ruled.{after_spaces, HasFewPairs, HasOperands, HasRuled}

@@ -1,11 +1,11 @@
 -- The first stuck state of a tree, on the walk over its nodes, and of a book's tree.
-use Rattle.std.proofs.Common.{◌≡◌, inl, inr, ℕ, ◌+◌, ◌≤◌, List, [], ◌∷◌, ◌++◌, Bool, true, false, cond, ◌||◌, not, ◌&&◌, true≢false, length, Option, Some, None, refl, ap, sym, ◌∙◌, subst, arith}
+use Rattle.std.proofs.Common.{◌≡◌, inl, inr, ℕ, ◌+◌, ◌≤◌, List, [], ◌∷◌, ◌++◌, Bool, true, false, cond, ◌||◌, not, true≢false, length, Option, Some, None, refl, ap, sym, ◌∙◌, subst, arith}
 use Rattle.std.specs.Prelude.{slice_get, IfSome, MatchOption}
 use Rattle.std.specs.List.{list_any}
 use Rattle.std.proofs.lemmas.Option.{slice_get_within}
 use Rattle.poly_graph.specs.Problem.{Problem}
 use Rattle.interval_model.specs.Space.{Space}
-use Rattle.cover_model.specs.State.{State, Loosenings, in_yes, undecided, with_yes, with_no, may}
+use Rattle.cover_model.specs.State.{State, Loosenings}
 use Rattle.cover_model.specs.Rules.{Line, open_line, stuck, one, when, pulled, can_narrow, narrowed_to, can_mark, marked, rule, narrow_by, end_by, mark_by, branch_by, stay_by, open_state, stuck_atom}
 use Rattle.cover_model.specs.Derivation.{Tree}
 use Rattle.cover_data.specs.Runs.{is_closing, children, IsEnding}

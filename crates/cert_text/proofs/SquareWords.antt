@@ -1,5 +1,5 @@
 -- The words of squares: how many there are, and that they can be spelled.
-use Rattle.std.proofs.Common.{◌≡◌, ℕ, suc, ◌+◌, ◌*◌, ◌<◌, ◌≤◌, List, [], ◌∷◌, ◌++◌, map, length, length-append, append_assoc, IsTrue, true≢false, nat_eq, true, inl, inr, refl, ap, sym, ◌∙◌, subst, arith}
+use Rattle.std.proofs.Common.{◌≡◌, ℕ, ◌+◌, ◌≤◌, List, [], ◌∷◌, ◌++◌, map, length, length-append, append_assoc, IsTrue, true≢false, nat_eq, true, inl, inr, refl, ap, sym, ◌∙◌, arith}
 use Rattle.std.specs.Prelude.{decimal, Vec, Result, Ok, Err, OnOk}
 use Rattle.std.specs.Global.{Global}
 use Rattle.std.specs.List.{AllByRecursion, list_all}
@@ -15,10 +15,10 @@ use Rattle.cover_line.specs.Views.{axes_of, block_of, blocks_of, numbers_of}
 use Rattle.cover_line.specs.declared.block.Block.{Block as CodeBlock}
 use Rattle.cover_line.specs.Words.{of_squares}
 use Rattle.square_model.specs.Block.{are_rows}
-use Rattle.square_model.specs.Positive.{sizes_of, block_numbers, blocks_numbers, all_numbers, most_numbers}
-use Rattle.cert_read.specs.LineText.{pair_words, factor_words, monomial_words, row_words, block_words, operand_words, IsCount, IsSpelledNumber, IsSpelledMonomial, AreSpelledRows, IsSpelledBlock, IsSpelledPair}
+use Rattle.square_model.specs.Positive.{sizes_of, block_numbers, blocks_numbers}
+use Rattle.cert_read.specs.LineText.{pair_words, factor_words, monomial_words, row_words, block_words, operand_words, IsCount, IsSpelledNumber, IsSpelledMonomial, AreSpelledRows, IsSpelledBlock}
 use Rattle.cert_text.specs.Lines.{HasPairs}
-use Rattle.cert_text.specs.Ruled.{after_spaces, has_rows, HasFewPairs, HasCounts, HasWords, HasOperands}
+use Rattle.cert_text.specs.Ruled.{has_rows, HasCounts, HasWords, HasOperands}
 use Rattle.cert_text.proofs.Numbers.{number_spelled}
 use Rattle.cert_text.proofs.Ruled.{pairs_spaced}
 use Rattle.cert_text.proofs.Words.{both_words, same_words, flat}

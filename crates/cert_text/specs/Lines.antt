@@ -1,5 +1,5 @@
 -- Lines that are appended to a text, and the forms in which the code has them.
-use Rattle.std.specs.Prelude.{◌≡◌, ℕ, ◌+◌, ◌*◌, ◌≤◌, List, [], ◌∷◌, ◌++◌, Bool, true, false, Some, None, codes, decimal, length}
+use Rattle.std.specs.Prelude.{◌≡◌, ℕ, ◌*◌, ◌≤◌, List, [], ◌∷◌, ◌++◌, Bool, true, false, Some, None, codes, decimal, length}
 use Rattle.std.specs.List.{AllByRecursion}
 use Rattle.cover_line.specs.Words.{empty_word, word_text}
 use Rattle.cert_read.specs.CertLine.{says_false, says_true, says_both, CertLine, version, margin, delta, bound, lower, goal, over, checks, cover, keep, point_word, tree_word, end_word, lemma, bool_value, yes_list, no_list, crossing}

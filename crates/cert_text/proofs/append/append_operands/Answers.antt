@@ -1,4 +1,4 @@
-use Rattle.std.proofs.Common.{◌≡◌, ◌∷◌, ◌++◌, List, ℕ, sym, subst, OnOk}
+use Rattle.std.proofs.Common.{sym, subst, OnOk}
 use Rattle.std.proofs.lemmas.Result.{on_ok_weaker}
 use Rattle.cover_line.specs.Views.{multipliers_of}
 use Rattle.cert_text.specs.Ruled.{HasOperands, operands_in}

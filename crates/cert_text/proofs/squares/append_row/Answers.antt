@@ -1,4 +1,4 @@
-use Rattle.std.proofs.Common.{◌∷◌, [], map, arith, ◌∙◌}
+use Rattle.std.proofs.Common.{◌∷◌, [], arith, ◌∙◌}
 use Rattle.dyadic.specs.declared.dy.Dy.{Dy}
 use Rattle.dyadic.specs.NumberText.{number_spelling}
 use Rattle.dyadic.specs.Views.{dyadic_of}
