@@ -88,11 +88,7 @@ fn proposals(alloc: Global, patch: &Patch, most_steps: u64) -> Result<Proposals,
 }
 
 // Ends the patch by the first proposal that ends it; whether one does.
-fn close_by(
-    alloc: Global,
-    proposals: &mut Proposals,
-    patch: &mut Patch,
-) -> Result<bool, AllocError>
+fn close_by(alloc: Global, proposals: &mut Proposals, patch: &mut Patch) -> Result<bool, AllocError>
     ensures continues { IfOk result (λ b. Continues patch.old patch.new) }
     ensures closed { IfOk result (λ b. b ≡ true → IsClosed patch.new.kept) }
     ensures same { IfOk result (λ b. b ≡ false → patch.new ≡ patch.old) }
