@@ -7,6 +7,8 @@ mod books;
 #[cfg(test)]
 mod cases;
 #[cfg(test)]
+mod ends_by_squares;
+#[cfg(test)]
 mod made;
 #[cfg(test)]
 mod many_atoms;
@@ -22,5 +24,3 @@ mod points;
 mod reopened;
 #[cfg(test)]
 mod shared;
-#[cfg(test)]
-mod squares;

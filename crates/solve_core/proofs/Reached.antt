@@ -5,7 +5,7 @@ use Rattle.cover_data.specs.declared.margins.Options.{Options}
 use Rattle.cover_data.specs.Margins.{AreMargins, options_in}
 use Rattle.cover_book.specs.declared.calls.Call.{Call}
 use Rattle.cover_book.specs.declared.calls.Reply.{Reply}
-use Rattle.cover_book.specs.Model.{BookModel, raised}
+use Rattle.cover_book.specs.Model.{BookModel, opening, raised}
 use Rattle.cover_book.specs.Steps.{MayBeCalled, BookStep}
 use Rattle.cover_book.specs.Limits.{IsWithinLimits}
 use Rattle.poly_graph.specs.ProblemViews.{Parts}
@@ -62,6 +62,12 @@ module _ (o : Options) (book : BookModel) (same : book.options ≡ options_in bo
 
   pub raised_options : o.version ≡ 5 → (c : BookModel) → Reaches book c → (raised c).options ≡ o
   raised_options five c h = ap (options_in 5) ((reaches_same h).1 ∙ same) ∙ ap (λ (n : ℕ). options_in n o) (sym five)
+
+  -- a book that is as it opened, in version 5
+  pub opens_in_version_5 : o.version ≡ 5 → (p : Parts) → book ≡ opening p book.options → raised book ≡ opening p o
+  opens_in_version_5 five p e =
+      let later : options_in 5 book.options ≡ o = ap (options_in 5) same ∙ ap (λ (n : ℕ). options_in n o) (sym five) in
+      ap raised e ∙ ap (opening p) later
 
 pub is_version_5 : (m : Margins) → AreMargins m → 5 ≤ m.version → m.version ≡ 5
 is_version_5 m h k = elim h.version_is [ inl e ↦ absurd (omega (arith, e, k)) | inr e ↦ e ]

@@ -225,9 +225,12 @@ fn close_whole<G: Gate>(
     ensures left { IfOk result (λ o. IfSome o (λ b. LeavesDue b)) }
 {
     let copy = problem.try_clone(alloc)?;
-    let book = Book::new(alloc, copy, *options)?;
-    let (book, is_done) = begin(alloc, book, problem, 0, gate)?;
-    Ok(if is_done { Some(book) } else { None })
+    let opened = Book::new(alloc, copy, *options)?;
+    let (book, is_done) = begin(alloc, opened, problem, 0, gate)?;
+    if is_done {
+        return Ok(Some(book));
+    }
+    Ok(None)
 }
 
 // Works alone at first: a problem of few boxes is done before threads start.
