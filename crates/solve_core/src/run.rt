@@ -15,7 +15,7 @@ ghost use Rattle.cover_book.specs.Left.{LeavesDue};
 ghost use Rattle.solve_core.specs.Search.{IsSearch, work_left};
 ghost use Rattle.solve_core.specs.Solved.{IsInVersionOf, IsSolved, IsCheckWithin, IsProblemAt, IsOpeningAt, AreAppended, AreBooksInOneVersion};
 
-use crate::gate::Gate;
+use crate::gate::{Gate, NoGate};
 use crate::search::Search;
 use crate::team::search_together;
 use box_worker::Room;
@@ -212,12 +212,12 @@ fn begin<G: Gate>(
     Ok((search.into_book(), is_done))
 }
 
-// A book of these options that is done without a branch, if the work on the whole box comes to that.
-fn close_whole<G: Gate>(
+// A book of these options that is done without a branch, if the work on the whole box comes to that. No gate is called, since
+// it would take the whole box for done.
+fn close_whole(
     alloc: Global,
     problem: &Problem,
     options: &Options,
-    gate: &G,
 ) -> Result<Option<Book>, AllocError>
     requires { IsWithinLimits problem.now options.now }
     ensures reached { IfOk result (λ o. IfSome o
@@ -226,7 +226,7 @@ fn close_whole<G: Gate>(
 {
     let copy = problem.try_clone(alloc)?;
     let opened = Book::new(alloc, copy, *options)?;
-    let (book, is_done) = begin(alloc, opened, problem, 0, gate)?;
+    let (book, is_done) = begin(alloc, opened, problem, 0, &NoGate)?;
     if is_done {
         return Ok(Some(book));
     }
@@ -368,7 +368,7 @@ fn search_in_versions<R: Threads + Wait + Sync, G: Gate + Sync>(
         return Ok(begun);
     }
     if is_new {
-        if let Some(anew) = close_whole(alloc, problem, options, gate)? {
+        if let Some(anew) = close_whole(alloc, problem, options)? {
             return Ok(anew);
         }
     }
@@ -412,7 +412,7 @@ pub fn search_on<R: Threads + Wait + Sync, G: Gate + Sync>(
 /// have more than one worker, so many of them, 64 at most, search on one book side by side, once the caller has made
 /// two boxes. Then the caller goes on alone from what they leave, until a point is kept, no node is live, or the budget
 /// is used up and nothing but a branch is left to be done at each live node. With one worker the caller does all of it.
-/// The gate is called before and after the work on each node.
+/// The gate is called before and after the work on each node, but for the attempt at the whole box in version 5.
 ///
 /// The search begins in version 2 of the format. Where the options are of version 5 and more than one axis is a Real one,
 /// the caller works alone at first. Once the book has more than 64 branches, the whole box is tried in version 5, and
