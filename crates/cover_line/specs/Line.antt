@@ -41,10 +41,11 @@ pub data Marking : Type 0 where
   unit_atom : ℕ → Marking
   ban_atom : ℕ → ℕ → Marking
 
--- what parts the state: an axis at a place, a Bool axis, an atom
+-- what parts the state: an axis at a place, a Bool axis, an atom, two groups of atoms of which one holds as a whole
 pub data Branching : Type 0 where
   cut_axis : ℕ → Dyadic → Branching
   flip_axis case_atom : ℕ → Branching
+  either_group : List ℕ → List ℕ → Branching
 
 -- what leaves the state as it is: open, or stuck with an atom
 pub data Staying : Type 0 where
@@ -101,6 +102,9 @@ flip axis = branch_by (flip_axis axis)
 
 abbrev pub case : ℕ → Line
 case j = branch_by (case_atom j)
+
+abbrev pub either : List ℕ → List ℕ → Line
+either js ks = branch_by (either_group js ks)
 
 abbrev pub open_line : Line
 open_line = stay_by open_state

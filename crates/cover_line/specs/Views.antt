@@ -4,7 +4,7 @@ use Rattle.std.specs.declared.alloc.Global.{Global}
 use Rattle.dyadic.specs.Rounding.{Dyadic}
 use Rattle.dyadic.specs.declared.dy.Dy.{Dy}
 use Rattle.dyadic.specs.Views.{dyadic_of}
-use Rattle.cover_line.specs.Line.{Multipliers, Factor, no_factor, bound_of, Block, Narrowing, by_range, by_off_range, by_combination, Ending, void_by, by_squares, false_form, by_lemma, Marking, unit_atom, ban_atom, Branching, cut_axis, flip_axis, case_atom, Staying, open_state, stuck_atom, Line, narrow_by, end_by, mark_by, branch_by, stay_by}
+use Rattle.cover_line.specs.Line.{Multipliers, Factor, no_factor, bound_of, Block, Narrowing, by_range, by_off_range, by_combination, Ending, void_by, by_squares, false_form, by_lemma, Marking, unit_atom, ban_atom, Branching, cut_axis, flip_axis, case_atom, either_group, Staying, open_state, stuck_atom, Line, narrow_by, end_by, mark_by, branch_by, stay_by}
 use Rattle.cover_line.specs.declared.block.Factor.{Factor as CodeFactor}
 use Rattle.cover_line.specs.declared.block.Factor.TheVariants as factor
 use Rattle.cover_line.specs.declared.block.Block.{Block as CodeBlock}
@@ -24,7 +24,7 @@ use Rattle.cover_line.specs.declared.word.NarrowingKind.{NarrowingKind}
 use Rattle.cover_line.specs.declared.word.NarrowingKind.TheVariants as kind
 use Rattle.cover_line.specs.declared.word.Word.{Word}
 use Rattle.cover_line.specs.declared.word.Word.TheVariants as word
-use Rattle.cover_line.specs.Words.{RuleWord, pull_word, push_word, combine_word, void_word, void_no_word, void_combine_word, void_squares_word, false_word, by_word, unit_word, ban_word, cut_word, flip_word, case_word, open_word, stuck_word, empty_word}
+use Rattle.cover_line.specs.Words.{RuleWord, pull_word, push_word, combine_word, void_word, void_no_word, void_combine_word, void_squares_word, false_word, by_word, unit_word, ban_word, cut_word, flip_word, case_word, either_word, open_word, stuck_word, empty_word}
 
 -- a rule's pairs of an atom and its multiplier
 abbrev pub multipliers_of : List (ℕ × Dy) → Multipliers
@@ -69,6 +69,7 @@ abbrev pub branching_of : CodeBranching → Branching
 branching_of (branching.Cut axis c) = cut_axis axis (dyadic_of c)
 branching_of (branching.Flip axis) = flip_axis axis
 branching_of (branching.Case j) = case_atom j
+branching_of (branching.Either js ks) = either_group js.items ks.items
 
 abbrev pub staying_of : CodeStaying → Staying
 staying_of staying.Open = open_state
@@ -105,6 +106,7 @@ rule_word word.Ban = ban_word
 rule_word word.Cut = cut_word
 rule_word word.Flip = flip_word
 rule_word word.Case = case_word
+rule_word word.Either = either_word
 rule_word word.Open = open_word
 rule_word word.Stuck = stuck_word
 rule_word word.Empty = empty_word

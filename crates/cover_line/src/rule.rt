@@ -70,7 +70,7 @@ pub enum Marking {
 }
 
 /// What parts the state in two.
-#[derive(Clone, Copy, Debug, PartialEq, Eq)]
+#[derive(Debug, Drop, PartialEq, Eq)]
 pub enum Branching {
     /// A Real axis at a place.
     Cut(u32, Dy),
@@ -78,6 +78,8 @@ pub enum Branching {
     Flip(u32),
     /// An atom.
     Case(u32),
+    /// Two groups of atoms, of which one holds as a whole.
+    Either(Vec<u32>, Vec<u32>),
 }
 
 /// What leaves the state as it is.
@@ -116,6 +118,7 @@ impl Rule {
             Rule::Branch(Branching::Cut(_, _)) => Word::Cut,
             Rule::Branch(Branching::Flip(_)) => Word::Flip,
             Rule::Branch(Branching::Case(_)) => Word::Case,
+            Rule::Branch(Branching::Either(_, _)) => Word::Either,
             Rule::Stay(Staying::Open) => Word::Open,
             Rule::Stay(Staying::Stuck(_)) => Word::Stuck,
         }

@@ -25,6 +25,7 @@ pub enum Word {
     Cut,
     Flip,
     Case,
+    Either,
     Open,
     Stuck,
     /// Of the line for crossed bounds.
@@ -32,7 +33,7 @@ pub enum Word {
 }
 
 // Each word once.
-const WORDS: [Word; 17] = [
+const WORDS: [Word; 18] = [
     Word::Narrow(NarrowingKind::Pull),
     Word::Narrow(NarrowingKind::Push),
     Word::Narrow(NarrowingKind::Combine),
@@ -47,6 +48,7 @@ const WORDS: [Word; 17] = [
     Word::Cut,
     Word::Flip,
     Word::Case,
+    Word::Either,
     Word::Open,
     Word::Stuck,
     Word::Empty,
@@ -72,6 +74,7 @@ impl Word {
             Word::Cut => "cut",
             Word::Flip => "flip",
             Word::Case => "case",
+            Word::Either => "either",
             Word::Open => "open",
             Word::Stuck => "stuck",
             Word::Empty => "empty",

@@ -11,7 +11,7 @@ use Rattle.cover_model.specs.State.{State, Loosenings, margin_of, in_version}
 use Rattle.cover_model.specs.Combination.{Multipliers, marked_range}
 use Rattle.square_model.specs.Positive.{is_positive}
 use Rattle.cover_model.specs.Honest.{is_small_domain, is_wide_domain, is_wide, may_be_cut, is_middle_at, not_shown, settled, is_honest}
-use Rattle.cover_model.specs.Rules.{Line, narrow_by, end_by, mark_by, branch_by, stay_by, Narrowing, by_range, by_off_range, by_combination, Ending, void_by, by_squares, false_form, by_lemma, Branching, cut_axis, flip_axis, case_atom, Staying, open_state, stuck_atom, Block, Left, closed, when, pulled, voided, has_version_2, has_version_5, in_no_one_sided, most_pairs, is_combination, are_ordered, are_combinable, can_combine, is_void_by_squares, can_narrow, narrowed_to, ending, rule}
+use Rattle.cover_model.specs.Rules.{Line, narrow_by, end_by, mark_by, branch_by, stay_by, Narrowing, by_range, by_off_range, by_combination, Ending, void_by, by_squares, false_form, by_lemma, Branching, cut_axis, flip_axis, case_atom, either_group, Staying, open_state, stuck_atom, Block, Left, closed, when, pulled, voided, has_version_2, has_version_5, in_no_one_sided, most_pairs, is_combination, are_ordered, are_combinable, can_combine, is_void_by_squares, can_narrow, narrowed_to, ending, are_groups, one_holds, can_part, is_parted, can_branch, first_child, second_child, two, rule}
 
 le-later : (a u v : ℕ) → u ≤ v → IsTrue (nat_le a u) → IsTrue (nat_le a v)
 le-later a u v h e = let k : a ≤ u = leb-true a u e in le-leb a v (omega (arith, h, k))
@@ -66,11 +66,25 @@ module _ (p : Problem) (s : Loosenings) (v : ℕ) (later : s.version ≤ v) wher
   ends-later lemmas S false_form x h = h
   ends-later lemmas S (by_lemma i) x h = h
 
+  parted-later : (S : State) (b : Branching) → IsTrue (is_parted p s S b) → IsTrue (is_parted p (in_version v s) S b)
+  parted-later S (either_group js ks) e =
+      let a = both_true (has_version_5 s && are_groups js ks) (one_holds p s S js ks) e in
+      let b = both_true (has_version_5 s) (are_groups js ks) a.0 in
+      both_pass (has_version_5 (in_version v s) && are_groups js ks) (one_holds p (in_version v s) S js ks)
+      (both_pass (has_version_5 (in_version v s)) (are_groups js ks) (le-later 5 s.version v later b.0) b.1) a.1
+  parted-later S (cut_axis axis c) e = refl
+  parted-later S (flip_axis axis) e = refl
+  parted-later S (case_atom j) e = refl
+
+  branches-later : (S : State) (b : Branching) (x : Left) → rule p s [] S (branch_by b) ≡ Some x → rule p (in_version v s) [] S (branch_by b) ≡ Some x
+  branches-later S b x h = when-later (can_branch p s S b) (can_branch p (in_version v s) S b) (two (first_child S b) (second_child S b)) x
+      (λ e. let d = both_true (can_part S b) (is_parted p s S b) e in both_pass (can_part S b) (is_parted p (in_version v s) S b) d.0 (parted-later S b d.1)) h
+
   pub rule_later : (lemmas : List State) (S : State) (l : Line) (x : Left) → rule p s lemmas S l ≡ Some x → rule p (in_version v s) lemmas S l ≡ Some x
   rule_later lemmas S (narrow_by n) x h = cond-later (can_narrow p s S n) (can_narrow p (in_version v s) S n) (pulled S (narrowed_to p s S n)) x (narrows_later S n) h
   rule_later lemmas S (end_by e) x h = ends-later lemmas S e x h
   rule_later lemmas S (mark_by m) x h = h
-  rule_later lemmas S (branch_by b) x h = h
+  rule_later lemmas S (branch_by b) x h = branches-later S b x h
   rule_later lemmas S (stay_by t) x h = h
 
 -- ---- the widest axis is one with a wide side
@@ -177,6 +191,7 @@ module _ (p : Problem) (s : Loosenings) (v : ℕ) (later : s.version ≤ v) (w :
       (both_pass due (may_be_cut w (in_version v s) axis S.space) b.0 (cuts-later axis S.space b.1)) a.1
   honest_later S (branch_by (flip_axis axis)) e = e
   honest_later S (branch_by (case_atom j)) e = e
+  honest_later S (branch_by (either_group js ks)) e = e
   honest_later S (stay_by open_state) e = e
   honest_later S (stay_by (stuck_atom j)) e = e
   honest_later S (narrow_by n) e = refl

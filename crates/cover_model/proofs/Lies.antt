@@ -1,5 +1,7 @@
 -- What a rule leaves, and what stays of a lawful tree, lies within its state.
 use Rattle.std.proofs.Common.{◌≡◌, inl, inr, ℕ, suc, zero, List, [], ◌∷◌, ◌++◌, Bool, true, false, not, cond, IsTrue, Option, Some, None, refl, sym, subst, true≢false}
+use Rattle.std.specs.Prelude.{slice_set}
+use Rattle.std.specs.List.{AllByRecursion}
 use Rattle.dyadic.specs.Fraction.{at_most}
 use Rattle.dyadic.specs.Rounding.{Dyadic, exact}
 use Rattle.dyadic.proofs.Equal.{both_true, both_pass, total}
@@ -8,14 +10,14 @@ use Rattle.interval_model.specs.Space.{Domain, real_domain, bool_domain, Space, 
 use Rattle.cover_model.specs.OffRange.{off_range}
 use Rattle.cover_model.specs.Space.{range}
 use Rattle.poly_graph.specs.Problem.{Problem, IsProblem, atom_at}
-use Rattle.poly_graph.specs.Marks.{Mark, marked_yes, marked_no, marks_within}
-use Rattle.cover_model.specs.State.{State, Loosenings, margin_of, undecided, with_mark, with_space, may, covers}
+use Rattle.poly_graph.specs.Marks.{Mark, marked_yes, marked_no, unmarked, is_no, is_unmarked, mark_at, mark_within, undecided_in, marks_within}
+use Rattle.cover_model.specs.State.{State, Loosenings, margin_of, in_no, undecided, with_mark, with_yes, with_space, may, covers}
 use Rattle.cover_model.specs.Combination.{Multipliers, marked_range}
-use Rattle.cover_model.specs.Rules.{Line, narrow_by, end_by, mark_by, branch_by, stay_by, Narrowing, by_range, by_off_range, by_combination, Ending, void_by, by_squares, false_form, by_lemma, Marking, unit_atom, ban_atom, Branching, cut_axis, flip_axis, case_atom, Left, closed, one, two, stays, narrowing, narrowing_off, combining, is_void_by_squares, lemma_covers, can_narrow, narrowed_to, ending, can_mark, marked, can_branch, first_child, second_child, can_stay, when, pulled, voided, rule}
+use Rattle.cover_model.specs.Rules.{Line, narrow_by, end_by, mark_by, branch_by, stay_by, Narrowing, by_range, by_off_range, by_combination, Ending, void_by, by_squares, false_form, by_lemma, Marking, unit_atom, ban_atom, Branching, cut_axis, flip_axis, case_atom, either_group, Left, closed, one, two, stays, narrowing, narrowing_off, combining, is_void_by_squares, lemma_covers, can_narrow, narrowed_to, ending, can_mark, marked, are_undecided, with_all_yes, can_part, is_parted, can_branch, first_child, second_child, can_stay, when, pulled, voided, rule}
 use Rattle.cover_model.proofs.CombinationWithin.{combining_lies_within}
 use Rattle.cover_model.specs.Derivation.{Tree, Lawful, at_closed, at_left, at_step, at_fork, LiesWithin, LiesWithinIf, EachWithin}
 use Rattle.poly_graph.proofs.Marks
-use Rattle.poly_graph.proofs.Marks.{marks_reflexive, marks_through}
+use Rattle.poly_graph.proofs.Marks.{set_or_same, mark_reflexive, marks_reflexive, marks_through}
 use Rattle.poly_graph.proofs.Bools.{not_both}
 use Rattle.cover_model.proofs.Within.{space_reflexive, space_through, narrowed_lies_within, domain_reflexive}
 
@@ -33,6 +35,29 @@ space_step S space h = both_pass (space_within space S.space) (marks_within S.ma
 
 pub mark_step : (S : State) (j : ℕ) (m : Mark) → IsTrue (undecided S j) → IsTrue (covers S (with_mark S j m))
 mark_step S j m h = both_pass (space_within S.space S.space) (marks_within S.marks (with_mark S j m).marks) (space_reflexive S.space) (Marks.set_within S.marks j m h)
+
+-- ---- groups of atoms
+
+yes-over : (m : Mark) → IsTrue (not (is_no m)) → IsTrue (mark_within m marked_yes)
+yes-over marked_yes h = refl
+yes-over unmarked h = refl
+yes-over marked_no h = absurd (true≢false (sym h))
+
+-- a mark yes is covered by the former marks, where there was no mark no
+yes-within : (ms : List Mark) (j : ℕ) → IsTrue (not (is_no (mark_at ms j))) → IsTrue (marks_within ms (slice_set ms j marked_yes))
+yes-within [] j h = refl
+yes-within (x ∷ ms) zero h = both_pass (mark_within x marked_yes) (marks_within ms ms) (yes-over x h) (marks_reflexive ms)
+yes-within (x ∷ ms) (suc j) h = both_pass (mark_within x x) (marks_within ms (slice_set ms j marked_yes)) (mark_reflexive x) (yes-within ms j h)
+
+not-no : (m : Mark) → IsTrue (is_unmarked m) → IsTrue (not (is_no m))
+not-no unmarked h = refl
+not-no marked_yes h = absurd (true≢false (sym h))
+not-no marked_no h = absurd (true≢false (sym h))
+
+none-no-mark : (ms : List Mark) (j : ℕ) → IsTrue (undecided_in ms j) → IsTrue (not (is_no (mark_at ms j)))
+none-no-mark [] j h = absurd (true≢false (sym h))
+none-no-mark (m ∷ ms) zero h = not-no m h
+none-no-mark (m ∷ ms) (suc j) h = none-no-mark ms j h
 
 -- ---- parts of domains
 
@@ -108,7 +133,35 @@ module _ (p : Problem) (g : IsProblem p) (s : Loosenings) where
   marked_within lemmas S (unit_atom j) e = mark_step S j marked_yes (both_true (undecided S j) _ e).0
   marked_within lemmas S (ban_atom j k) e = mark_step S j marked_no (both_true (undecided S j) _ e).0
 
-  pub parts_within : (S : State) (b : Branching) → IsTrue (can_branch S b) → LiesWithin S (two (first_child S b) (second_child S b))
+  -- an atom that is not marked no may be marked yes
+  yes-step : (S : State) (j : ℕ) → IsTrue (not (in_no S j)) → IsTrue (covers S (with_yes S j))
+  yes-step S j h = both_pass (space_within S.space S.space) (marks_within S.marks (with_yes S j).marks) (space_reflexive S.space) (yes-within S.marks j h)
+
+  abbrev none-no : State → List ℕ → Type 0
+  none-no S js = AllByRecursion (λ (j : ℕ). IsTrue (not (in_no S j))) js
+
+  still-none : (S : State) (i j : ℕ) → IsTrue (not (in_no S j)) → IsTrue (not (in_no (with_yes S i) j))
+  still-none S i j h = elim (set_or_same S.marks i marked_yes j) [
+    | inl d ↦ subst (λ (m : Mark). IsTrue (not (is_no m))) (sym d.1) refl
+    | inr d ↦ subst (λ (m : Mark). IsTrue (not (is_no m))) (sym d) h
+  ]
+
+  still-none-all : (S : State) (i : ℕ) (js : List ℕ) → none-no S js → none-no (with_yes S i) js
+  still-none-all S i [] f = tt
+  still-none-all S i (j ∷ js) f = (still-none S i j f.0, still-none-all S i js f.1)
+
+  undecided-none : (S : State) (js : List ℕ) → IsTrue (are_undecided S js) → none-no S js
+  undecided-none S [] e = tt
+  undecided-none S (j ∷ js) e = let d = both_true (undecided S j) (are_undecided S js) e in (none-no-mark S.marks j d.0, undecided-none S js d.1)
+
+  group-step : (S : State) (js : List ℕ) → none-no S js → IsTrue (covers S (with_all_yes S js))
+  group-step S [] f = covers_itself S
+  group-step S (j ∷ js) f = covers_through S (with_yes S j) (with_all_yes (with_yes S j) js) (yes-step S j f.0) (group-step (with_yes S j) js (still-none-all S j js f.1))
+
+  pub group_within : (S : State) (js : List ℕ) → IsTrue (are_undecided S js) → IsTrue (covers S (with_all_yes S js))
+  group_within S js e = group-step S js (undecided-none S js e)
+
+  pub parts_within : (S : State) (b : Branching) → IsTrue (can_part S b) → LiesWithin S (two (first_child S b) (second_child S b))
   parts_within S (cut_axis axis c) e = (
     space_step S (changed (lower_part c) axis S.space) (changed-within (lower_part c) (strictly_inside c) (lower-within c) axis S.space e),
     space_step S (changed (upper_part c) axis S.space) (changed-within (upper_part c) (strictly_inside c) (upper-within c) axis S.space e),
@@ -118,13 +171,14 @@ module _ (p : Problem) (g : IsProblem p) (s : Loosenings) where
     space_step S (changed (keep true) axis S.space) (changed-within (keep true) is_undecided (keep-within true) axis S.space e),
   )
   parts_within S (case_atom j) e = (mark_step S j marked_yes e, mark_step S j marked_no e)
+  parts_within S (either_group js ks) e = let d = both_true (are_undecided S js) (are_undecided S ks) e in (group_within S js d.0, group_within S ks d.1)
 
   -- what a rule leaves lies within its state
   pub rule_within : (lemmas : List State) (S : State) (l : Line) → LiesWithinIf S (rule p s lemmas S l)
   rule_within lemmas S (narrow_by n) = by-cond (can_narrow p s S n) (pulled S (narrowed_to p s S n)) S (pulled-within S (narrowed_to p s S n) (narrowed_within S n))
   rule_within lemmas S (end_by e) = ending_within lemmas S e
   rule_within lemmas S (mark_by m) = by-when (can_mark p s lemmas S m) (one (marked S m)) S (marked_within lemmas S m)
-  rule_within lemmas S (branch_by b) = by-when (can_branch S b) (two (first_child S b) (second_child S b)) S (parts_within S b)
+  rule_within lemmas S (branch_by b) = by-when (can_branch p s S b) (two (first_child S b) (second_child S b)) S (λ e. parts_within S b (both_true (can_part S b) (is_parted p s S b) e).0)
   rule_within lemmas S (stay_by t) = by-when (can_stay p s S t) stays S (λ e. tt)
 
   -- ---- trees

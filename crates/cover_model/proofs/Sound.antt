@@ -1,6 +1,7 @@
 -- Each rule of a cover keeps the points that meet the form, and so does each lawful tree.
-use Rattle.std.proofs.Common.{◌≡◌, ◌⊎◌, inl, inr, ℕ, suc, zero, List, [], ◌∷◌, ◌++◌, Bool, true, false, not, cond, IsTrue, Option, Some, None, refl, sym, subst, true≢false}
+use Rattle.std.proofs.Common.{◌≡◌, ◌⊎◌, inl, inr, ℕ, suc, zero, List, [], ◌∷◌, ◌++◌, Bool, true, false, not, ◌&&◌, cond, IsTrue, Option, Some, None, refl, sym, subst, true≢false}
 use Rattle.std.specs.Prelude.{slice_get}
+use Rattle.std.specs.List.{AllByRecursion}
 use Rattle.dyadic.specs.Fraction.{at_most}
 use Rattle.dyadic.specs.Point.{Coordinate, at_fraction, at_bool}
 use Rattle.dyadic.specs.Rounding.{Dyadic, exact}
@@ -11,7 +12,7 @@ use Rattle.cover_model.specs.Space.{range}
 use Rattle.poly_graph.specs.Problem.{Problem, IsProblem, sorts_of_problem, atom_at, term_of, full_atom}
 use Rattle.poly_graph.specs.Marks.{Mark, marked_yes, marked_no, is_yes, is_no, marks_within}
 use Rattle.cover_model.specs.State.{State, Loosenings, margin_of, in_no, undecided, with_yes, with_no, with_space, may, IsPointOf, MeetsForm, IsLemma, covers}
-use Rattle.cover_model.specs.Rules.{Line, narrow_by, end_by, mark_by, branch_by, stay_by, Narrowing, by_range, by_off_range, by_combination, Ending, void_by, by_squares, false_form, by_lemma, Marking, unit_atom, ban_atom, Branching, cut_axis, flip_axis, case_atom, Left, closed, one, two, stays, narrowing, narrowing_off, has_version_2, is_void_by_squares, is_one_sided, in_no_one_sided, can_push, covers_by, lemma_covers, can_narrow, narrowed_to, ending, can_mark, marked, can_branch, first_child, second_child, can_stay, when, pulled, voided, rule}
+use Rattle.cover_model.specs.Rules.{Line, narrow_by, end_by, mark_by, branch_by, stay_by, Narrowing, by_range, by_off_range, by_combination, Ending, void_by, by_squares, false_form, by_lemma, Marking, unit_atom, ban_atom, Branching, cut_axis, flip_axis, case_atom, either_group, Left, closed, one, two, stays, narrowing, narrowing_off, has_version_2, is_void_by_squares, is_one_sided, in_no_one_sided, can_push, covers_by, lemma_covers, can_narrow, narrowed_to, ending, can_mark, marked, with_all_yes, none_may_fail, one_holds, are_groups, has_version_5, can_part, is_parted, can_branch, first_child, second_child, can_stay, when, pulled, voided, rule}
 use Rattle.cover_model.specs.Derivation.{Tree, Lawful, at_closed, at_left, at_step, at_fork, Keeps, KeepsIf, Among, here, later, AreLemmas}
 use Rattle.poly_graph.proofs.Marks.{set_or_same, yes_within, no_within}
 use Rattle.cover_model.proofs.CombinationMarked.{combined_point}
@@ -168,13 +169,42 @@ module _ (p : Problem) (s : Loosenings) where
     marks_soundly lemmas f S (ban_atom j k) point i h e =
         elim (atom_split S point i j) [ inl a ↦ absurd (no-point lemmas f k (with_yes S j) point (both_true (undecided S j) _ e).1 a h) | inr a ↦ a ]
 
-    -- each point of a state is one of a part
-    pub parts_soundly : (S : State) (b : Branching) (point : List Coordinate) → IsPointOf p s S point → IsPointOf p s (first_child S b) point ⊎ IsPointOf p s (second_child S b) point
-    parts_soundly S (cut_axis axis c) point i =
+    -- ---- groups of atoms
+
+    abbrev HoldsAt : List Coordinate → ℕ → Type 0
+    HoldsAt point j = IsTrue (atom_holds (exact (margin_of s)) point (full_atom p j))
+
+    -- a point at which each of these atoms holds
+    group-holds : (S : State) (point : List Coordinate) → IsPointOf p s S point → (js : List ℕ) → AllByRecursion (HoldsAt point) js → IsPointOf p s (with_all_yes S js) point
+    group-holds S point i [] f = i
+    group-holds S point i (j ∷ js) f = group-holds (with_yes S j) point (with_yes_point S point i j f.0) js f.1
+
+    -- where the form may not hold if any of them fails, each holds
+    all-hold : (S : State) (point : List Coordinate) → IsPointOf p s S point → MeetsForm p s point → (ks : List ℕ) → IsTrue (none_may_fail p s S ks) → AllByRecursion (HoldsAt point) ks
+    all-hold S point i h [] e = tt
+    all-hold S point i h (k ∷ ks) e = let d = both_true (not (may p s (with_no S k))) (none_may_fail p s S ks) e in (elim (decided (atom_holds (exact (margin_of s)) point (full_atom p k))) [
+      | inl a ↦ a
+      | inr a ↦ absurd (not_both (may p s (with_no S k)) (may_is p g s (with_no S k) point (with_no_point S point i k a) h) d.0)
+    ], all-hold S point i h ks d.1)
+
+    -- the atoms of one group hold
+    one-group : (S : State) (point : List Coordinate) → IsPointOf p s S point → MeetsForm p s point → (js ks : List ℕ) → IsTrue (one_holds p s S js ks) →
+        AllByRecursion (HoldsAt point) js ⊎ AllByRecursion (HoldsAt point) ks
+    one-group S point i h [] ks e = inl tt
+    one-group S point i h (j ∷ js) ks e = let d = both_true (none_may_fail p s (with_no S j) ks) (one_holds p s S js ks) e in elim (decided (atom_holds (exact (margin_of s)) point (full_atom p j))) [
+      | inl a ↦ elim (one-group S point i h js ks d.1) [ inl f ↦ inl (a, f) | inr f ↦ inr f ]
+      | inr a ↦ inr (all-hold (with_no S j) point (with_no_point S point i j a) h ks d.0)
+    ]
+
+    -- each point of a state that meets the form is one of a part
+    pub parts_soundly : (S : State) (b : Branching) (point : List Coordinate) → IsPointOf p s S point → MeetsForm p s point → IsTrue (can_branch p s S b) → IsPointOf p s (first_child S b) point ⊎ IsPointOf p s (second_child S b) point
+    parts_soundly S (cut_axis axis c) point i h e =
         elim (space-parts (lower_part c) (upper_part c) (part-cut c) axis S.space point i.inside) [ inl k ↦ inl (with-space S point i _ k) | inr k ↦ inr (with-space S point i _ k) ]
-    parts_soundly S (flip_axis axis) point i =
+    parts_soundly S (flip_axis axis) point i h e =
         elim (space-parts (keep false) (keep true) part-flip axis S.space point i.inside) [ inl k ↦ inl (with-space S point i _ k) | inr k ↦ inr (with-space S point i _ k) ]
-    parts_soundly S (case_atom j) point i = atom_split S point i j
+    parts_soundly S (case_atom j) point i h e = atom_split S point i j
+    parts_soundly S (either_group js ks) point i h e =
+        elim (one-group S point i h js ks (both_true (has_version_5 s && are_groups js ks) (one_holds p s S js ks) (both_true (can_part S (either_group js ks)) _ e).1).1) [ inl f ↦ inl (group-holds S point i js f) | inr f ↦ inr (group-holds S point i ks f) ]
 
     -- a point of the state that meets the form is a point of some state that the rule leaves
     pub rule_keeps : (lemmas : List State) → AreLemmas p s lemmas → (S : State) (l : Line) → (point : List Coordinate) → IsPointOf p s S point → MeetsForm p s point → KeepsIf p s (rule p s lemmas S l) S point
@@ -182,7 +212,7 @@ module _ (p : Problem) (s : Loosenings) where
         (λ e. let k = narrows_soundly S n point i e in rw k.1 (with-space S point i k.0 k.2))
     rule_keeps lemmas f S (end_by e) point i h = ends_soundly lemmas f S e point i h
     rule_keeps lemmas f S (mark_by m) point i h = by-when (can_mark p s lemmas S m) (one (marked S m)) S point (λ e. marks_soundly lemmas f S m point i h e)
-    rule_keeps lemmas f S (branch_by b) point i h = by-when (can_branch S b) (two (first_child S b) (second_child S b)) S point (λ e. parts_soundly S b point i)
+    rule_keeps lemmas f S (branch_by b) point i h = by-when (can_branch p s S b) (two (first_child S b) (second_child S b)) S point (λ e. parts_soundly S b point i h e)
     rule_keeps lemmas f S (stay_by t) point i h = by-when (can_stay p s S t) stays S point (λ e. tt)
 
     -- a whole tree: each point of its state that meets the form is one of a state that stays

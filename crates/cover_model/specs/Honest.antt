@@ -7,7 +7,7 @@ use Rattle.interval_model.specs.Space.{Domain, real_domain, bool_domain, Space, 
 use Rattle.poly_graph.specs.Problem.{Problem}
 use Rattle.poly_graph.specs.Marks.{Mark, is_yes}
 use Rattle.cover_model.specs.State.{State, Loosenings, margin_of, in_yes, with_no, may, sure, misses}
-use Rattle.cover_model.specs.Rules.{Line, has_version_5, narrowing, is_stuck_atom, branch_by, cut_axis, flip_axis, case_atom, stay_by, open_state, stuck_atom}
+use Rattle.cover_model.specs.Rules.{Line, has_version_5, narrowing, is_stuck_atom, branch_by, cut_axis, flip_axis, case_atom, either_group, stay_by, open_state, stuck_atom}
 
 -- ---- a state to which nothing more can be done without a branch
 
@@ -94,12 +94,20 @@ abbrev pub none_below : Problem → Loosenings → State → ℕ → Bool
 none_below p s S zero = true
 none_below p s S (suc j) = not (is_stuck_atom p s S j) && none_below p s S j
 
+-- ---- groups
+
+-- no enclosure of these atoms misses its range
+abbrev pub none_misses : Problem → Loosenings → State → List ℕ → Bool
+none_misses p s S [] = true
+none_misses p s S (j ∷ js) = not (misses p (margin_of s) S.space j) && none_misses p s S js
+
 -- ---- honesty, where w is the number of bits of the least width
 
 abbrev pub is_honest : Problem → ℕ → Loosenings → State → Line → Bool
 is_honest p w s S (branch_by (cut_axis axis c)) = not_shown p s S && settled p s S && may_be_cut w s axis S.space && is_middle_at axis c S.space
 is_honest p w s S (branch_by (flip_axis axis)) = not_shown p s S && settled p s S
 is_honest p w s S (branch_by (case_atom j)) = not_shown p s S && settled p s S && may p s (with_no S j) && not (misses p (margin_of s) S.space j)
+is_honest p w s S (branch_by (either_group js ks)) = not_shown p s S && settled p s S && none_misses p s S js && none_misses p s S ks
 is_honest p w s S (stay_by (stuck_atom j)) = not_shown p s S && settled p s S && is_small w S.space && none_below p s S j
 is_honest p w s S (stay_by open_state) = not_shown p s S
 is_honest p w s S l = true

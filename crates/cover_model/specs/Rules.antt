@@ -1,6 +1,6 @@
 -- The lines of a cover, each with its condition on a state and the states that it leaves.
-use Rattle.std.specs.Prelude.{ℕ, List, [], ◌∷◌, length, Bool, true, false, cond, not, ◌&&◌, ◌||◌, Option, Some, None, nat_le, nat_lt, slice_get}
-pub use Rattle.cover_line.specs.Line.{Block, Line, narrow_by, end_by, mark_by, branch_by, stay_by, Narrowing, by_range, by_off_range, by_combination, Ending, void_by, by_squares, false_form, by_lemma, Marking, unit_atom, ban_atom, Branching, cut_axis, flip_axis, case_atom, Staying, open_state, stuck_atom, pull, unit, void, push, void_no, combine, void_combine, void_squares, ban, make_false, by, cut, flip, case, open_line, stuck}
+use Rattle.std.specs.Prelude.{ℕ, ◌*◌, List, [], ◌∷◌, length, Bool, true, false, cond, not, ◌&&◌, ◌||◌, Option, Some, None, nat_le, nat_lt, slice_get}
+pub use Rattle.cover_line.specs.Line.{Block, Line, narrow_by, end_by, mark_by, branch_by, stay_by, Narrowing, by_range, by_off_range, by_combination, Ending, void_by, by_squares, false_form, by_lemma, Marking, unit_atom, ban_atom, Branching, cut_axis, flip_axis, case_atom, either_group, Staying, open_state, stuck_atom, pull, unit, void, push, void_no, combine, void_combine, void_squares, ban, make_false, by, cut, flip, case, either, open_line, stuck}
 use Rattle.interval_model.specs.Interval.{misses_nought}
 use Rattle.poly_graph.specs.Term.{Kind, le, ge, eq}
 use Rattle.interval_model.specs.Space.{Domain, Space, middle, strictly_inside, lower_part, upper_part, is_undecided, keep, changed, test_axis}
@@ -95,6 +95,41 @@ covers_by (Some L) S = covers L S
 abbrev pub lemma_covers : List State → ℕ → State → Bool
 lemma_covers lemmas i S = covers_by (slice_get lemmas i) S
 
+-- ---- groups of atoms
+
+-- no atom of the group is marked
+abbrev pub are_undecided : State → List ℕ → Bool
+are_undecided S [] = true
+are_undecided S (j ∷ js) = undecided S j && are_undecided S js
+
+abbrev pub with_all_yes : State → List ℕ → State
+with_all_yes S [] = S
+with_all_yes S (j ∷ js) = with_all_yes (with_yes S j) js
+
+-- the atoms' numbers ascend
+abbrev pub is_ascending : List ℕ → Bool
+is_ascending [] = true
+is_ascending (j ∷ []) = true
+is_ascending (j ∷ k ∷ rest) = nat_lt j k && is_ascending (k ∷ rest)
+
+-- an atom of the one group with one of the other can be chosen in so many ways at most
+abbrev pub most_choices : ℕ
+most_choices = 64
+
+-- two groups of one atom or more each, in order, with few choices
+abbrev pub are_groups : List ℕ → List ℕ → Bool
+are_groups js ks = is_ascending js && is_ascending ks && nat_lt 0 (length js * length ks) && nat_le (length js * length ks) most_choices
+
+-- the form may not hold where any atom of the group fails
+abbrev pub none_may_fail : Problem → Loosenings → State → List ℕ → Bool
+none_may_fail p s S [] = true
+none_may_fail p s S (j ∷ js) = not (may p s (with_no S j)) && none_may_fail p s S js
+
+-- the form may not hold where an atom of each group fails, so that one group holds as a whole where the form does
+abbrev pub one_holds : Problem → Loosenings → State → List ℕ → List ℕ → Bool
+one_holds p s S [] ks = true
+one_holds p s S (j ∷ js) ks = none_may_fail p s (with_no S j) ks && one_holds p s S js ks
+
 -- ---- branches
 
 abbrev pub with_changed : State → (Domain → Domain) → ℕ → State
@@ -124,20 +159,31 @@ marked S (unit_atom j) = with_yes S j
 marked S (ban_atom j i) = with_no S j
 
 -- the state can be parted there
-abbrev pub can_branch : State → Branching → Bool
-can_branch S (cut_axis axis c) = test_axis (strictly_inside c) axis S.space
-can_branch S (flip_axis axis) = test_axis is_undecided axis S.space
-can_branch S (case_atom j) = undecided S j
+abbrev pub can_part : State → Branching → Bool
+can_part S (cut_axis axis c) = test_axis (strictly_inside c) axis S.space
+can_part S (flip_axis axis) = test_axis is_undecided axis S.space
+can_part S (case_atom j) = undecided S j
+can_part S (either_group js ks) = are_undecided S js && are_undecided S ks
+
+-- each point of the state that meets the form is one of a part
+abbrev pub is_parted : Problem → Loosenings → State → Branching → Bool
+is_parted p s S (either_group js ks) = has_version_5 s && are_groups js ks && one_holds p s S js ks
+is_parted p s S b = true
+
+abbrev pub can_branch : Problem → Loosenings → State → Branching → Bool
+can_branch p s S b = can_part S b && is_parted p s S b
 
 abbrev pub first_child : State → Branching → State
 first_child S (cut_axis axis c) = with_changed S (lower_part c) axis
 first_child S (flip_axis axis) = with_changed S (keep false) axis
 first_child S (case_atom j) = with_yes S j
+first_child S (either_group js ks) = with_all_yes S js
 
 abbrev pub second_child : State → Branching → State
 second_child S (cut_axis axis c) = with_changed S (upper_part c) axis
 second_child S (flip_axis axis) = with_changed S (keep true) axis
 second_child S (case_atom j) = with_no S j
+second_child S (either_group js ks) = with_all_yes S ks
 
 -- atom j may hold and does not surely hold
 abbrev pub is_stuck_atom : Problem → Loosenings → State → ℕ → Bool
@@ -173,5 +219,5 @@ abbrev pub rule : Problem → Loosenings → List State → State → Line → O
 rule p s lemmas S (narrow_by n) = cond (can_narrow p s S n) (pulled S (narrowed_to p s S n)) None
 rule p s lemmas S (end_by e) = ending p s lemmas S e
 rule p s lemmas S (mark_by m) = when (can_mark p s lemmas S m) (one (marked S m))
-rule p s lemmas S (branch_by b) = when (can_branch S b) (two (first_child S b) (second_child S b))
+rule p s lemmas S (branch_by b) = when (can_branch p s S b) (two (first_child S b) (second_child S b))
 rule p s lemmas S (stay_by t) = when (can_stay p s S t) stays
