@@ -5,7 +5,7 @@ use Rattle.std.specs.Str.Parse.{digits_value}
 use Rattle.dyadic.specs.Rounding.{Dyadic}
 use Rattle.dyadic.specs.NumberText.{NumberText, number, number_text}
 use Rattle.cover_line.specs.Line.{Multipliers, Factor, no_factor, bound_of, Block, Line}
-use Rattle.cover_line.specs.Words.{Form, with_none, with_number, with_numbers, with_place, with_multipliers, with_squares, empty_word, word_text, rule_forms}
+use Rattle.cover_line.specs.Words.{Form, with_none, with_number, with_numbers, with_place, with_multipliers, with_squares, with_groups, empty_word, word_text, rule_forms}
 use Rattle.cert_read.specs.Lines.{is_too_long, are_words, words_of}
 
 -- ---- what a line says
@@ -196,7 +196,15 @@ take_blocks (suc n) (w ∷ ws) = and_take (take_block (w ∷ ws)) (λ b vs. and_
 abbrev pub take_squares : List (List ℕ) → Taken (Multipliers × List Block)
 take_squares ws = and_take (take_count ws) (λ k vs. and_take (take_many take_pair k vs) (λ ms us. and_take (take_blocks (length us) us) (λ bs ts. taken (ms, bs) ts)))
 
-abbrev pub line_taken : (Multipliers → List Block → CertLine) → Taken (Multipliers × List Block) → Parsed
+-- plain numbers up to the end
+abbrev pub take_list : List (List ℕ) → Taken (List ℕ)
+take_list ws = taken_if (counts_of ws) []
+
+-- how many atoms, the atoms, and others up to the end
+abbrev pub take_groups : List (List ℕ) → Taken (List ℕ × List ℕ)
+take_groups ws = and_take (take_count ws) (λ n vs. and_take (take_many take_count n vs) (λ js us. and_take (take_list us) (λ ks ts. taken (js, ks) ts)))
+
+abbrev pub line_taken : {A B : Type 0} → (A → B → CertLine) → Taken (A × B) → Parsed
 line_taken f (taken x ws) = line (f x.0 x.1)
 line_taken f ill_formed = bad_line
 line_taken f no_number = bad_number
@@ -230,6 +238,10 @@ paired f ws = cond (has_pairs ws) (with_pairs f (pairs_of ws)) bad_line
 -- those of a sum of squares
 abbrev pub squared : (Multipliers → List Block → CertLine) → List (List ℕ) → Parsed
 squared f ws = line_taken f (take_squares ws)
+
+-- two groups of atoms
+abbrev pub grouped : (List ℕ → List ℕ → CertLine) → List (List ℕ) → Parsed
+grouped f ws = line_taken f (take_groups ws)
 
 -- any number of plain numbers
 abbrev pub listed : (List ℕ → CertLine) → List (List ℕ) → Parsed
@@ -280,6 +292,7 @@ ruled (with_numbers f) ws = counted_twice (λ m n. rule_line (f m n)) ws
 ruled (with_place f) ws = placed (λ n d. rule_line (f n d)) ws
 ruled (with_multipliers f) ws = paired (λ ps. rule_line (f ps)) ws
 ruled (with_squares f) ws = squared (λ ms bs. rule_line (f ms bs)) ws
+ruled (with_groups f) ws = grouped (λ js ks. rule_line (f js ks)) ws
 
 abbrev pub tree_forms : List (List ℕ × (List (List ℕ) → Parsed))
 tree_forms = map (λ x. (word_text x.0, ruled x.1)) rule_forms

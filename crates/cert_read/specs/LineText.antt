@@ -5,7 +5,7 @@ use Rattle.dyadic.specs.Rounding.{Dyadic}
 use Rattle.dyadic.specs.NumberText.{number, number_text, number_spelling}
 use Rattle.cert_read.specs.Lines.{all_bytes, longest_line}
 use Rattle.cover_line.specs.Line.{Multipliers, Factor, no_factor, bound_of, Block, Line}
-use Rattle.cover_line.specs.Words.{empty_word, word_of, word_text, Operands, of_nothing, of_atom, of_lemma, of_atom_lemma, of_axis, of_axis_place, of_multipliers, of_squares, operands_of}
+use Rattle.cover_line.specs.Words.{empty_word, word_of, word_text, Operands, of_nothing, of_atom, of_lemma, of_atom_lemma, of_axis, of_axis_place, of_multipliers, of_squares, of_groups, operands_of}
 use Rattle.cert_read.specs.CertLine.{BoolWord, says_false, says_true, says_both, CertLine, version, margin, delta, bound, lower, goal, over, checks, cover, keep, point_word, tree_word, end_word, lemma, real_interval, real_value, bool_value, yes_list, no_list, rule_line, crossing}
 
 -- words parted by one space
@@ -63,6 +63,7 @@ operand_words (of_axis axis) = decimal axis ∷ []
 operand_words (of_axis_place axis c) = decimal axis ∷ number_spelling c ∷ []
 operand_words (of_multipliers ps) = pair_words ps
 operand_words (of_squares ms bs) = decimal (length ms) ∷ (pair_words ms ++ block_words bs)
+operand_words (of_groups js ks) = decimal (length js) ∷ (map decimal js ++ map decimal ks)
 
 abbrev pub rule_words : Line → List (List ℕ)
 rule_words l = word_text (word_of l) ∷ operand_words (operands_of l)
@@ -141,6 +142,7 @@ AreSpelledOperands (of_axis axis) = IsCount axis
 AreSpelledOperands (of_axis_place axis c) = IsCount axis × IsSpelledNumber c
 AreSpelledOperands (of_multipliers ps) = AreSpelledPairs ps
 AreSpelledOperands (of_squares ms bs) = IsCount (length ms) × AllByRecursion IsSpelledPair ms × AllByRecursion IsSpelledBlock bs
+AreSpelledOperands (of_groups js ks) = IsCount (length js) × AllByRecursion IsCount js × AllByRecursion IsCount ks
 
 abbrev pub IsSpelledRule : Line → Type 0
 IsSpelledRule l = AreSpelledOperands (operands_of l)
