@@ -14,13 +14,13 @@ use Rattle.dyadic.specs.Rounding.{Dyadic}
 use Rattle.dyadic.specs.NumberText.{number_spelling}
 use Rattle.dyadic.proofs.Equal.{both_true, both_pass}
 use Rattle.cert_read.specs.Lines.{all_bytes, is_word, are_words, words_of, is_too_long, longest_line}
-use Rattle.cover_line.specs.Line.{Multipliers, Factor, no_factor, bound_of, Block, void_squares, Line, pull, unit, void, push, void_no, combine, void_combine, ban, by, cut, flip, case, stuck, narrow_by, by_range, by_off_range, by_combination, end_by, void_by, by_squares, false_form, by_lemma, mark_by, unit_atom, ban_atom, branch_by, cut_axis, flip_axis, case_atom, stay_by, open_state, stuck_atom}
-use Rattle.cover_line.specs.Words.{of_squares, void_squares_word, RuleWord, empty_word, pull_word, unit_word, ban_word, void_word, push_word, void_no_word, false_word, by_word, cut_word, flip_word, case_word, open_word, stuck_word, combine_word, void_combine_word, word_of, word_text, Operands, of_nothing, of_atom, of_lemma, of_atom_lemma, of_axis, of_axis_place, of_multipliers, operands_of}
+use Rattle.cover_line.specs.Line.{Multipliers, Factor, no_factor, bound_of, Block, void_squares, Line, pull, unit, void, push, void_no, combine, void_combine, ban, by, cut, flip, case, either, stuck, narrow_by, by_range, by_off_range, by_combination, end_by, void_by, by_squares, false_form, by_lemma, mark_by, unit_atom, ban_atom, branch_by, cut_axis, flip_axis, case_atom, either_group, stay_by, open_state, stuck_atom}
+use Rattle.cover_line.specs.Words.{of_squares, of_groups, either_word, void_squares_word, RuleWord, empty_word, pull_word, unit_word, ban_word, void_word, push_word, void_no_word, false_word, by_word, cut_word, flip_word, case_word, open_word, stuck_word, combine_word, void_combine_word, word_of, word_text, Operands, of_nothing, of_atom, of_lemma, of_atom_lemma, of_axis, of_axis_place, of_multipliers, operands_of}
 use Rattle.cert_read.specs.CertLine.{BoolWord, says_false, says_true, says_both, CertLine, version, margin, delta, bound, lower, goal, over, checks, cover, keep, point_word, tree_word, end_word, lemma, real_interval, real_value, bool_value, yes_list, no_list, rule_line, crossing, is_plain, if_below, if_plain, count_of, if_number, dyadic_of, counts_of, and_count, pairs_of, and_pair, are_paired, has_pairs, line, parsed, with_count, with_counts, with_dyadic, with_dyadics, with_both, with_list, taken, taken_if, take_count, take_dyadic, take_many, take_pair, take_monomial, take_rows, take_factor, take_block, take_blocks, bound_in, lower_in, paired, by_first, if_words, unless_long}
 use Rattle.cert_read.specs.LineText.{spaced, line_words, line_text, rule_words, operand_words, pair_words, factor_words, monomial_words, row_words, block_words, bound_text, lower_text, bool_text, is_word_byte, IsCount, IsSpelledNumber, IsSpelledPair, AreSpelledPairs, IsSpelledFactor, IsSpelledMonomial, AreSpelledRows, IsSpelledBlock, AreSpelledOperands, IsSpelledRule, IsSpelledBound, IsSpelledLower, HasSpelling, IsSpelled}
 use Rattle.cert_read.proofs.Paired.{paired_line}
 use Rattle.cert_read.proofs.Pieces.{lacks, AllLack, words_of_spaced, spaced_lacks}
-use Rattle.cert_read.proofs.Takings.{first_taken, pair_on, monomial_on, factor_on, bound_on, block_on, blocks_some, blocks_none, squares_on}
+use Rattle.cert_read.proofs.Takings.{first_taken, pair_on, monomial_on, factor_on, bound_on, block_on, blocks_some, blocks_none, squares_on, groups_on}
 
 -- ---- plain numbers
 
@@ -184,6 +184,7 @@ word-clean stuck_word = literal (word_text stuck_word) refl refl
 word-clean combine_word = literal (word_text combine_word) refl refl
 word-clean void_combine_word = literal (word_text void_combine_word) refl refl
 word-clean void_squares_word = literal (word_text void_squares_word) refl refl
+word-clean either_word = literal (word_text either_word) refl refl
 
 operands-clean : (o : Operands) → AreSpelledOperands o → AreCleanWords (operand_words o)
 operands-clean of_nothing h = tt
@@ -193,6 +194,7 @@ operands-clean (of_atom_lemma j i) h = (decimal-clean j h.0, (decimal-clean i h.
 operands-clean (of_axis axis) h = (decimal-clean axis h, tt)
 operands-clean (of_axis_place axis c) h = (decimal-clean axis h.0, (number-clean c h.1, tt))
 operands-clean (of_multipliers ps) h = pairs-clean ps h.1
+operands-clean (of_groups js ks) h = (decimal-clean (length js) h.0, clean-both (map decimal js) (map decimal ks) (decimals-clean js h.1) (decimals-clean ks h.2))
 operands-clean (of_squares ms bs) h = (decimal-clean (length ms) h.0, clean-both (pair_words ms) (block_words bs) (pairs-clean ms h.1) (blocks-clean bs h.2))
 
 rule-clean : (l : Line) → IsSpelledRule l → AreCleanWords (rule_words l)
@@ -373,6 +375,10 @@ rule-says (end_by (by_squares ms bs)) h =
     let blocks = block_words bs in
     squares_on (operand_words (of_squares ms bs)) (pair_words ms ++ blocks) blocks [] (length ms) ms bs
     (take-decimal (length ms) h.0 (pair_words ms ++ blocks)) (take-pairs ms h.1 blocks) (take-the-blocks (length blocks) bs h.2 (omega arith)) (λ ps cs. rule_line (void_squares ps cs))
+rule-says (branch_by (either_group js ks)) h =
+    let behind = map decimal ks in
+    groups_on (operand_words (of_groups js ks)) (map decimal js ++ behind) behind (length js) js ks
+    (take-decimal (length js) h.0 (map decimal js ++ behind)) (take-decimals js h.1 behind) (spelled_counts ks h.2) (λ hs is. rule_line (either hs is))
 rule-says (end_by false_form) h = refl
 rule-says (stay_by open_state) h = refl
 

@@ -7,7 +7,7 @@ use Rattle.dyadic.specs.Rounding.{Dyadic}
 use Rattle.cover_line.specs.Line.{Multipliers, Factor, bound_of, Block}
 use Rattle.cert_read.specs.declared.fault.LineFault.{LineFault}
 use Rattle.cert_read.specs.declared.fault.LineFault.TheVariants.{BadLine, BadNumber, LineTooLong, Memory}
-use Rattle.cert_read.specs.CertLine.{CertLine, line, Taken, taken, ill_formed, no_number, and_take, taken_if, count_of, dyadic_of, take_count, take_dyadic, take_many, take_pair, take_monomial, take_rows, factor_by, take_factor, take_block_of, take_block, take_blocks, take_squares, line_taken, squared}
+use Rattle.cert_read.specs.CertLine.{CertLine, line, Taken, taken, ill_formed, no_number, and_take, taken_if, count_of, dyadic_of, take_count, take_dyadic, take_many, take_pair, take_monomial, take_rows, factor_by, take_factor, take_block_of, take_block, take_blocks, take_squares, counts_of, take_list, take_groups, line_taken, squared, grouped}
 use Rattle.cert_read.specs.Taking.{IsTaken, IsTakenFault}
 use Rattle.cert_read.specs.Words.{words_behind}
 use Rattle.cert_read.proofs.Parts.{split_some}
@@ -274,3 +274,22 @@ pub squares_on : (ws vs us ts : List (List ℕ)) (k : ℕ) (ms : Multipliers) (b
     → take_blocks (length us) us ≡ taken bs ts → (f : Multipliers → List Block → CertLine) → squared f ws ≡ line (f ms bs)
 squares_on ws vs us ts k ms bs a b c f =
     ap (line_taken f) (many-then ws vs k a ∙ pairs-then vs us k ms b ∙ and_on (take_blocks (length us) us) (λ cs xs. taken (ms, cs) xs) bs ts c)
+
+-- ---- two groups
+
+abbrev take-second : List ℕ → List (List ℕ) → Taken (List ℕ × List ℕ)
+take-second js us = and_take (take_list us) (λ ks ts. taken (js, ks) ts)
+
+abbrev take-first : ℕ → List (List ℕ) → Taken (List ℕ × List ℕ)
+take-first n vs = and_take (take_many take_count n vs) (λ js us. take-second js us)
+
+groups-then : (ws vs : List (List ℕ)) (n : ℕ) → take_count ws ≡ taken n vs → take_groups ws ≡ take-first n vs
+groups-then ws vs n a = and_on (take_count ws) (λ k xs. take-first k xs) n vs a
+
+first-then : (vs us : List (List ℕ)) (n : ℕ) (js : List ℕ) → take_many take_count n vs ≡ taken js us → take-first n vs ≡ take-second js us
+first-then vs us n js b = and_on (take_many take_count n vs) (λ hs xs. take-second hs xs) js us b
+
+pub groups_on : (ws vs us : List (List ℕ)) (n : ℕ) (js ks : List ℕ) → take_count ws ≡ taken n vs → take_many take_count n vs ≡ taken js us
+    → counts_of us ≡ Some ks → (f : List ℕ → List ℕ → CertLine) → grouped f ws ≡ line (f js ks)
+groups_on ws vs us n js ks a b c f =
+    ap (line_taken f) (groups-then ws vs n a ∙ first-then vs us n js b ∙ ap (λ (o : Option (List ℕ)). and_take (taken_if o []) (λ hs ts. taken (js, hs) ts)) c)

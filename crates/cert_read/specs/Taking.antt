@@ -11,7 +11,7 @@ use Rattle.cover_line.specs.Views.{multipliers_of, axes_of, numbers_of, blocks_o
 use Rattle.cert_read.specs.declared.fault.LineFault.{LineFault}
 use Rattle.cert_read.specs.declared.fault.LineFault.TheVariants.{BadLine, BadNumber, LineTooLong, Memory}
 use Rattle.cert_read.specs.declared.squares.Ahead.{Ahead}
-use Rattle.cert_read.specs.CertLine.{CertLine, Taken, taken, ill_formed, no_number, squared, line}
+use Rattle.cert_read.specs.CertLine.{CertLine, Taken, taken, ill_formed, no_number, squared, grouped, line}
 use Rattle.cert_read.specs.LineAnswers.{IsFault}
 use Rattle.cert_read.specs.Words.{words_behind}
 
@@ -62,3 +62,8 @@ IsTaken view t (Err f) ws = IsTakenFault f t
 abbrev pub AreSquaresIn : Result (Vec (ℕ × Dy) Global × Vec CodeBlock Global) LineFault → List (List ℕ) → Type 0
 AreSquaresIn (Ok x) ws = (f : Multipliers → List Block → CertLine) → squared f ws ≡ line (f (pairs_in x.0) (blocks_in x.1))
 AreSquaresIn (Err e) ws = (f : Multipliers → List Block → CertLine) → IsFault e (squared f ws)
+
+-- the same for two groups of atoms
+abbrev pub AreGroupsIn : Result (Vec ℕ Global × Vec ℕ Global) LineFault → List (List ℕ) → Type 0
+AreGroupsIn (Ok x) ws = (f : List ℕ → List ℕ → CertLine) → grouped f ws ≡ line (f x.0.items x.1.items)
+AreGroupsIn (Err e) ws = (f : List ℕ → List ℕ → CertLine) → IsFault e (grouped f ws)

@@ -2,6 +2,7 @@
 #![tactic(auto)]
 
 mod fault;
+mod groups;
 mod keyword;
 mod line;
 mod number;

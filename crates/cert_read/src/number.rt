@@ -1,8 +1,9 @@
 // The numbers of lines.
-ghost use Rattle.std.specs.Prelude.{◌≡◌, ◌^◌, ◌<◌, ◌≤◌, ◌↔◌, IsTrue, MatchOption, MatchResult, Some};
+ghost use Rattle.std.specs.Prelude.{◌≡◌, ◌^◌, ◌<◌, ◌≤◌, ◌↔◌, IsTrue, MatchOption, MatchResult, Some, option_copied};
 ghost use Rattle.std.specs.Str.Parse.{digits_value};
 ghost use Rattle.cert_read.specs.CertLine.{are_paired, count_of, dyadic_of, pairs_of};
 ghost use Rattle.cert_read.specs.Lines.{words_of};
+ghost use Rattle.cert_read.specs.Words.{words_behind};
 ghost use Rattle.cert_read.specs.Numbers.{AreCounted, AreDigits, IsMeasured, IsPlain, IsUncounted};
 ghost use Rattle.cert_read.specs.LineAnswers.{IsCounted};
 ghost use Rattle.cover_line.specs.Views.{multipliers_of};
@@ -87,6 +88,16 @@ pub(crate) fn counts(alloc: Global, text: &[u8]) -> Result<Vec<u32>, LineFault>
             return Ok(numbers);
         }
         at += size + 1;
+    }
+}
+
+/// The numbers of a list, which may be none.
+pub(crate) fn list(alloc: Global, rest: Option<&[u8]>) -> Result<Vec<u32>, LineFault>
+    ensures { AreCounted result (words_behind (option_copied rest.entry)) }
+{
+    match rest {
+        None => Ok(Vec::new(alloc)),
+        Some(text) => counts(alloc, text),
     }
 }
 

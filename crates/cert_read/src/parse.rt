@@ -6,13 +6,14 @@ ghost use Rattle.cover_line.specs.Words.{word_text};
 ghost use Rattle.cert_read.specs.CertLine.{alone, bool_in, bound_in, by_first, lower_in, parsed, real_in, rule_line};
 ghost use Rattle.cert_read.specs.Keywords.{keyword_text};
 ghost use Rattle.cert_read.specs.Lines.{are_words, words_of};
-ghost use Rattle.cert_read.specs.Numbers.{AreCounted, ArePairs};
+ghost use Rattle.cert_read.specs.Numbers.{ArePairs};
 ghost use Rattle.cert_read.specs.LineAnswers.{AreTwoIn, IsParse, IsBoolParse, IsOneIn, IsPlaceIn};
 ghost use Rattle.cert_read.specs.Views.{line_of};
 ghost use Rattle.cert_read.specs.Words.{words_behind};
 
+use crate::groups::groups;
 use crate::keyword::{Keyword, keyword_in};
-use crate::number::{are_paired, count, counts, dyadic, pairs};
+use crate::number::{are_paired, count, dyadic, list, pairs};
 use crate::place::cut;
 use crate::squares::squares;
 use crate::words::{Words, words_behind};
@@ -135,6 +136,10 @@ fn after_rule_word(alloc: Global, word: Word, rest: Option<&[u8]>) -> Result<Lin
         }
         Word::Flip => Ok(Line::Rule(Rule::Branch(Branching::Flip(number(rest)?)))),
         Word::Case => Ok(Line::Rule(Rule::Branch(Branching::Case(number(rest)?)))),
+        Word::Either => {
+            let (first, second) = groups(alloc, rest)?;
+            Ok(Line::Rule(Rule::Branch(Branching::Either(first, second))))
+        }
         Word::Open => alone(rest, Line::Rule(Rule::Stay(Staying::Open))),
         Word::Stuck => Ok(Line::Rule(Rule::Stay(Staying::Stuck(number(rest)?)))),
         Word::Empty => Ok(Line::Empty(number(rest)?)),
@@ -178,16 +183,6 @@ fn place(rest: Option<&[u8]>) -> Result<(u32, Dy), LineFault>
     match words_behind(rest) {
         Words::Two(first, second) => Ok((count(first)?, dyadic(second)?)),
         Words::Nothing | Words::One(_) | Words::More => Err(LineFault::BadLine),
-    }
-}
-
-// The numbers of a list, which may be none.
-fn list(alloc: Global, rest: Option<&[u8]>) -> Result<Vec<u32>, LineFault>
-    ensures { AreCounted result (words_behind (option_copied rest.entry)) }
-{
-    match rest {
-        None => Ok(Vec::new(alloc)),
-        Some(text) => counts(alloc, text),
     }
 }
 

@@ -15,8 +15,8 @@ use std::alloc::Global;
 /// The words that are still to be read: those of what stands behind a space, where there is one. Numbers of things are
 /// not to be trusted before the things are read, since a few words may say that there are billions.
 #[derive(Clone, Copy)]
-struct Ahead<'a> {
-    rest: Option<&'a [u8]>,
+pub(crate) struct Ahead<'a> {
+    pub(crate) rest: Option<&'a [u8]>,
 }
 
 impl<'a> Ahead<'a> {
@@ -32,8 +32,8 @@ impl<'a> Ahead<'a> {
         Some(word)
     }
 
-    // A plain number.
-    fn count(&mut self) -> Result<u32, LineFault>
+    /// A plain number.
+    pub(crate) fn count(&mut self) -> Result<u32, LineFault>
         ensures { IsTaken itself (take_count (words_ahead self.old)) result (words_ahead self.new) }
     {
         match self.word() {
@@ -52,8 +52,8 @@ impl<'a> Ahead<'a> {
         }
     }
 
-    // So many plain numbers.
-    fn counts(&mut self, alloc: Global, many: u32) -> Result<Vec<u32>, LineFault>
+    /// So many plain numbers.
+    pub(crate) fn counts(&mut self, alloc: Global, many: u32) -> Result<Vec<u32>, LineFault>
         ensures { IsTaken axes_of (take_many take_count many (words_ahead self.old)) result
             (words_ahead self.new) }
     {
