@@ -7,6 +7,7 @@ pub mod Endings
 pub mod Fed
 pub mod Feeding
 pub mod Firsts
+pub mod Grouped
 pub mod Leans
 pub mod Led
 pub mod ListTests

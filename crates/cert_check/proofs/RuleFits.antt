@@ -14,7 +14,7 @@ use Rattle.poly_graph.specs.ProblemViews.{Parts, problem_of}
 use Rattle.poly_graph.specs.Marks.{Mark, marked_yes, marked_no, unmarked}
 use Rattle.cover_model.specs.State.{State, Loosenings, margin_of, with_mark, with_space, may, root_state}
 use Rattle.cover_model.specs.Combination.{Expansion, expansion, allowed_range, marked_range, range_of, tightened, with_axis, with_intervals, left_of_space}
-use Rattle.cover_model.specs.Rules.{is_void_by_squares, Line, narrow_by, Narrowing, by_range, by_off_range, by_combination, end_by, void_by, by_squares, false_form, by_lemma, mark_by, Marking, unit_atom, ban_atom, branch_by, Branching, cut_axis, flip_axis, case_atom, stay_by, Left, closed, one, two, stays, can_narrow, narrowed_to, lemma_covers, can_mark, marked, can_branch, first_child, second_child, can_stay, with_changed, when, pulled, voided, rule}
+use Rattle.cover_model.specs.Rules.{is_void_by_squares, Line, narrow_by, Narrowing, by_range, by_off_range, by_combination, end_by, void_by, by_squares, false_form, by_lemma, mark_by, Marking, unit_atom, ban_atom, branch_by, Branching, cut_axis, flip_axis, case_atom, either_group, with_all_yes, stay_by, Left, closed, one, two, stays, can_narrow, narrowed_to, lemma_covers, can_mark, marked, can_branch, first_child, second_child, can_stay, with_changed, when, pulled, voided, rule}
 use Rattle.cert_check.specs.States.{Fits}
 use Rattle.cert_check.specs.Waiting.{FitsLeft}
 
@@ -100,15 +100,21 @@ module _ (p : Parts) where
   marked-fits S (unit_atom j) h = mark_fits S j marked_yes h
   marked-fits S (ban_atom j i) h = mark_fits S j marked_no h
 
+  group-fits : (S : State) (js : List ℕ) → Fits p S → Fits p (with_all_yes S js)
+  group-fits S [] h = h
+  group-fits S (j ∷ js) h = group-fits (with_mark S j marked_yes) js (mark_fits S j marked_yes h)
+
   first-fits : (S : State) (b : Branching) → Fits p S → Fits p (first_child S b)
   first-fits S (cut_axis axis c) h = changed-fits S (lower_part c) axis h
   first-fits S (flip_axis axis) h = changed-fits S (keep false) axis h
   first-fits S (case_atom j) h = mark_fits S j marked_yes h
+  first-fits S (either_group js ks) h = group-fits S js h
 
   second-fits : (S : State) (b : Branching) → Fits p S → Fits p (second_child S b)
   second-fits S (cut_axis axis c) h = changed-fits S (upper_part c) axis h
   second-fits S (flip_axis axis) h = changed-fits S (keep true) axis h
   second-fits S (case_atom j) h = mark_fits S j marked_no h
+  second-fits S (either_group js ks) h = group-fits S ks h
 
   pub rule_fits : (s : Loosenings) (lemmas : List State) (S : State) (l : Line) → Fits p S → FitsLeft p (rule (problem_of p) s lemmas S l)
   rule_fits s lemmas S (narrow_by n) h = cond-fits (can_narrow (problem_of p) s S n) (pulled S (narrowed_to (problem_of p) s S n)) (left-fits S (narrowed_to (problem_of p) s S n) (length-narrowed (problem_of p) s S n) h)
@@ -117,7 +123,7 @@ module _ (p : Parts) where
   rule_fits s lemmas S (end_by false_form) h = when-fits (not (may (problem_of p) s S)) closed tt
   rule_fits s lemmas S (end_by (by_lemma i)) h = when-fits (lemma_covers lemmas i S) closed tt
   rule_fits s lemmas S (mark_by m) h = when-fits (can_mark (problem_of p) s lemmas S m) (one (marked S m)) (marked-fits S m h)
-  rule_fits s lemmas S (branch_by b) h = when-fits (can_branch S b) (two (first_child S b) (second_child S b)) (first-fits S b h, second-fits S b h)
+  rule_fits s lemmas S (branch_by b) h = when-fits (can_branch (problem_of p) s S b) (two (first_child S b) (second_child S b)) (first-fits S b h, second-fits S b h)
   rule_fits s lemmas S (stay_by t) h = when-fits (can_stay (problem_of p) s S t) stays tt
 
   length-none : (n : ℕ) → length (replicate n unmarked) ≡ n

@@ -1,8 +1,9 @@
 // The rules that leave two states, and those that leave a state as it is.
-ghost use Rattle.std.specs.Prelude.{◌≡◌, ◌<◌, [], length, IfOk, ◌&&◌, not};
+ghost use Rattle.std.specs.Prelude.{◌≡◌, ◌<◌, [], length, IfOk, IsTrue, ◌&&◌, not};
 ghost use Rattle.interval_model.specs.Space.{strictly_inside, is_undecided, test_axis};
 ghost use Rattle.dyadic.specs.Views.{dyadic_of};
-ghost use Rattle.cover_model.specs.Rules.{cut, flip, case, stuck, is_stuck_atom};
+ghost use Rattle.cert_model.specs.Due.{all_below};
+ghost use Rattle.cover_model.specs.Rules.{cut, flip, case, either, stuck, is_stuck_atom};
 ghost use Rattle.cover_model.specs.State.{Loosenings as StateLoosenings};
 ghost use Rattle.poly_graph.specs.ProblemViews.{Parts, problem_of};
 ghost use Rattle.ival.specs.SpaceViews.{domain_of, space_of};
@@ -10,7 +11,9 @@ ghost use Rattle.cert_check.specs.States.{state_of, loosenings_of, Fits};
 ghost use Rattle.cert_check.specs.Steps.{IsLeftAnywhere, IsLeftBy};
 ghost use Rattle.cert_check.specs.Serving.{Serves};
 
+use crate::groups::can_branch;
 use crate::left::Left;
+use crate::lists::mark_all;
 use crate::loosenings::Loosenings;
 use crate::state::State;
 use crate::tools::Tools;
@@ -103,6 +106,35 @@ pub fn case(alloc: Global, state: State, j: u32) -> Result<Option<Left>, AllocEr
     first.lits.set(j, Mark::Yes);
     second.lits.set(j, Mark::No);
     Ok(Some(Left::Two(first, second)))
+}
+
+/// All atoms of the first group marked yes, and all of the second, where the form can't hold with one of each marked no.
+#[tactic(auto, using(crate::proofs::Grouped::parted_yes, crate::proofs::Grouped::not_parted))]
+pub fn either(
+    alloc: Global,
+    problem: &Problem,
+    tools: &mut Tools,
+    s: Loosenings,
+    state: State,
+    first: &[u32],
+    second: &[u32],
+) -> Result<Option<Left>, AllocError>
+    requires serves { Serves problem.now tools.old }
+    requires fits { Fits problem.now (state_of state) }
+    requires first { IsTrue (all_below (length problem.now.atoms) first.now) }
+    requires second { IsTrue (all_below (length problem.now.atoms) second.now) }
+    ensures rule { IfOk result (IsLeftBy (either first.now second.now)
+        problem.now (loosenings_of s) [] state) }
+    ensures serves { Serves problem.now tools.new }
+{
+    let mut one = state;
+    if !can_branch(problem, tools, s, &mut one, first, second) {
+        return Ok(None);
+    }
+    let mut other = one.try_clone(alloc)?;
+    mark_all(&mut one.lits, first, Mark::Yes);
+    mark_all(&mut other.lits, second, Mark::Yes);
+    Ok(Some(Left::Two(one, other)))
 }
 
 /// The state as it is, where the atom may hold and does not surely hold.

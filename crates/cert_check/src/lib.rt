@@ -18,6 +18,7 @@ mod ending;
 mod fault;
 mod feed;
 mod form;
+mod groups;
 mod header;
 mod judged;
 pub mod laws;

@@ -9,9 +9,9 @@ ghost use Rattle.cert_check.specs.Lists.{marked, IsMarked};
 use poly_graph::{Lits, Mark};
 use std::alloc::{AllocError, Global};
 
-// Whether each is below `count`.
+/// Whether each is below `count`.
 #[tactic(auto, using(crate::proofs::ListTests::below_fails, crate::proofs::ListTests::below_next, crate::proofs::ListTests::below_done))]
-fn all_below(count: usize, js: &[u32]) -> bool
+pub fn all_below(count: usize, js: &[u32]) -> bool
     ensures { result ≡ all_below count js.now }
 {
     for j in js {
@@ -22,9 +22,9 @@ fn all_below(count: usize, js: &[u32]) -> bool
     true
 }
 
-// Whether each is below the next one.
+/// Whether each is below the next one.
 #[tactic(auto, using(crate::proofs::ListTests::ascends_fails, crate::proofs::ListTests::ascends_next, crate::proofs::ListTests::ascends_done))]
-fn ascends(js: &[u32]) -> bool
+pub fn ascends(js: &[u32]) -> bool
     ensures { result ≡ ascends js.now }
 {
     let mut k = 1;
@@ -44,9 +44,9 @@ pub fn is_list(count: usize, js: &[u32]) -> bool
     all_below(count, js) && ascends(js)
 }
 
-// Gives each of the atoms the mark.
+/// Gives each of the atoms the mark.
 #[tactic(auto, using(crate::proofs::ListTests::below_at, crate::proofs::Marking::marked_next, crate::proofs::Marking::marked_done))]
-fn mark_all(lits: &mut Lits, js: &[u32], mark: Mark)
+pub fn mark_all(lits: &mut Lits, js: &[u32], mark: Mark)
     requires { IsTrue (all_below (length lits.old) js.now) }
     ensures { lits.new ≡ marked lits.old js.now (mark_of mark) }
 {
@@ -55,9 +55,9 @@ fn mark_all(lits: &mut Lits, js: &[u32], mark: Mark)
     }
 }
 
-// Whether none of the atoms has a mark.
+/// Whether none of the atoms has a mark.
 #[tactic(auto, using(crate::proofs::ListTests::below_at, crate::proofs::ListTests::all_fails, crate::proofs::ListTests::all_next, crate::proofs::ListTests::all_done))]
-fn all_unmarked(lits: &Lits, js: &[u32]) -> bool
+pub fn all_unmarked(lits: &Lits, js: &[u32]) -> bool
     requires { IsTrue (all_below (length lits.now) js.now) }
     ensures { result ≡ list_all (λ j. is_unmarked (mark_at lits.now j)) js.now }
 {

@@ -1,6 +1,6 @@
 // What a line names.
-ghost use Rattle.std.specs.Prelude.{◌≡◌, map};
-ghost use Rattle.cert_model.specs.Due.{are_all_axes, are_atoms, are_axes, are_blocks_there, are_there, is_factor_there, is_atom, is_axis, is_crossed_box, names_well, Next};
+ghost use Rattle.std.specs.Prelude.{◌≡◌, length, map};
+ghost use Rattle.cert_model.specs.Due.{all_below, are_all_axes, are_atoms, are_axes, are_blocks_there, are_there, is_factor_there, is_atom, is_axis, is_crossed_box, names_well, Next};
 ghost use Rattle.cover_model.specs.Views.{multipliers_of};
 ghost use Rattle.cert_model.specs.Accepted.{no_crossing};
 ghost use Rattle.poly_graph.specs.ProblemViews.{problem_of};
@@ -9,6 +9,7 @@ ghost use Rattle.cert_check.specs.Faults.{IsLineRefusal};
 ghost use Rattle.cover_line.specs.Views.{axes_of, blocks_of, factor_of, line_of as rule_of, narrowing_of};
 ghost use Rattle.cover_line.specs.Words.{narrowing_operands};
 
+use crate::lists::all_below;
 use crate::refusal::Refusal;
 use cover_line::{Block, Branching, Ending, Factor, Marking, Narrowing, Rule, Staying, Word};
 use dyadic::Dy;
@@ -38,6 +39,13 @@ fn are_atoms(problem: &Problem, pairs: &[(u32, Dy)]) -> bool
         }
     }
     true
+}
+
+// Whether there are all atoms of the group.
+fn is_group_there(problem: &Problem, group: &[u32]) -> bool
+    ensures { result ≡ all_below (length problem.now.atoms) group.now }
+{
+    all_below(problem.atoms().len(), group)
 }
 
 // Whether there are all these axes.
@@ -112,6 +120,9 @@ pub fn names_well(problem: &Problem, step: &Rule) -> bool
         Rule::Mark(Marking::Unit(j) | Marking::Ban(j, _)) => is_atom(problem, *j),
         Rule::Branch(Branching::Cut(axis, _) | Branching::Flip(axis)) => is_axis(problem, *axis),
         Rule::Branch(Branching::Case(j)) => is_atom(problem, *j),
+        Rule::Branch(Branching::Either(first, second)) => {
+            is_group_there(problem, first) && is_group_there(problem, second)
+        }
         Rule::Stay(Staying::Open) => true,
         Rule::Stay(Staying::Stuck(j)) => is_atom(problem, *j),
     }

@@ -8,7 +8,7 @@ ghost use Rattle.cert_check.specs.Dues.{AllFit};
 ghost use Rattle.cert_check.specs.Steps.{IsLeftBy};
 ghost use Rattle.cert_check.specs.Serving.{Serves};
 
-use crate::branches::{case, cut, flip, stuck};
+use crate::branches::{case, cut, either, flip, stuck};
 use crate::closing::{by, make_false};
 use crate::left::Left;
 use crate::lemmas::Lemmas;
@@ -53,6 +53,9 @@ pub fn rule(
         Rule::Branch(Branching::Cut(axis, place)) => cut(alloc, state, *axis, *place),
         Rule::Branch(Branching::Flip(axis)) => flip(alloc, state, *axis),
         Rule::Branch(Branching::Case(j)) => case(alloc, state, *j),
+        Rule::Branch(Branching::Either(first, second)) => {
+            either(alloc, problem, tools, s, state, first, second)
+        }
         Rule::Stay(Staying::Open) => Ok(Some(Left::Stays)),
         Rule::Stay(Staying::Stuck(j)) => Ok(stuck(problem, tools, s, state, *j)),
     }

@@ -40,7 +40,7 @@ goes-on p s lemmas S (end_by (by_squares ms bs)) h = when-goes (is_void_by_squar
 goes-on p s lemmas S (end_by false_form) h = when-goes (not (may p s S)) closed refl
 goes-on p s lemmas S (end_by (by_lemma i)) h = when-goes (lemma_covers lemmas i S) closed refl
 goes-on p s lemmas S (mark_by m) h = when-goes (can_mark p s lemmas S m) (one (marked S m)) refl
-goes-on p s lemmas S (branch_by b) h = when-goes (can_branch S b) (two (first_child S b) (second_child S b)) refl
+goes-on p s lemmas S (branch_by b) h = when-goes (can_branch p s S b) (two (first_child S b) (second_child S b)) refl
 goes-on p s lemmas S (stay_by t) h = absurd (true≢false h)
 
 module _ (p : Problem) (g : ℕ) (low : Option Dyadic) where

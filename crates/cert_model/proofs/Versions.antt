@@ -7,8 +7,8 @@ use Rattle.poly_graph.specs.Marks.{Mark, is_yes}
 use Rattle.poly_graph.specs.Problem.{Problem}
 use Rattle.cover_model.specs.State.{State, Loosenings, margin_of, with_no, may, misses, root_state}
 use Rattle.interval_model.specs.Space.{middle, Space, widest, test_axis}
-use Rattle.cover_model.specs.Rules.{can_combine, closed, when, Line, narrow_by, Narrowing, end_by, void_by, by_squares, branch_by, cut_axis, flip_axis, case_atom, stay_by, stuck_atom, Left, one, two, can_narrow, narrowed_to, has_version_2, has_version_5, pulled, voided, narrowing, is_stuck_atom, rule}
-use Rattle.cover_model.specs.Honest.{is_honest, is_some_space, none_empty_from, none_below, not_shown, settled, all_in_yes, conjuncts, is_small, is_wide, is_wide_domain, may_be_cut, is_middle_at}
+use Rattle.cover_model.specs.Rules.{can_combine, closed, when, Line, narrow_by, Narrowing, end_by, void_by, by_squares, branch_by, cut_axis, flip_axis, case_atom, either_group, stay_by, stuck_atom, Left, one, two, can_narrow, narrowed_to, has_version_2, has_version_5, pulled, voided, narrowing, is_stuck_atom, are_undecided, are_groups, one_holds, with_all_yes, rule}
+use Rattle.cover_model.specs.Honest.{is_honest, is_some_space, none_empty_from, none_below, none_misses, not_shown, settled, all_in_yes, conjuncts, is_small, is_wide, is_wide_domain, may_be_cut, is_middle_at}
 use Rattle.cover_model.specs.Derivation.{Tree, leaf, then, fork, Lawful, at_closed, at_left, at_step, at_fork}
 use Rattle.cert_model.specs.Due.{Standing, left_open}
 use Rattle.cert_model.specs.Written.{leaf_standing, step_standing, fork_standing, left_standing, tree_standing, LemmaTree, AreLemmaTrees, lemma_states}
@@ -38,6 +38,7 @@ module _ (p : Problem) (s : Loosenings) (e : s.version ≡ 2) where
   rule_same lemmas S (narrow_by n) = ap₂ (λ (t : Bool) (o : Option Space). cond t (pulled S o) None) (lawful S n) (narrowed_in p s 3 S n)
   rule_same lemmas S (end_by (void_by n)) = ap₂ (λ (t : Bool) (o : Option Space). cond t (voided o) None) (lawful S n) (narrowed_in p s 3 S n)
   rule_same lemmas S (end_by (by_squares ms bs)) = sym (ap (λ (t : Bool). when (t && can_combine p s S ms && is_positive p (marked_range p (margin_of s) S.marks) S.space (middle S.space) ms bs) closed) before)
+  rule_same lemmas S (branch_by (either_group js ks)) = sym (ap (λ (t : Bool). when ((are_undecided S js && are_undecided S ks) && (t && are_groups js ks && one_holds p s S js ks)) (two (with_all_yes S js) (with_all_yes S ks))) before)
   rule_same lemmas S _ = refl
 
   module _ (lemmas : List State) where
@@ -112,6 +113,10 @@ module _ (s : Loosenings) (e : s.version ≡ 2) (p : Problem) where
   below-same S zero = refl
   below-same S (suc j) = ap (λ (t : Bool). not (is_stuck_atom p s S j) && t) (below-same S j)
 
+  group-same : (S : State) (js : List ℕ) → none_misses p (in_version_3 s) S js ≡ none_misses p s S js
+  group-same S [] = refl
+  group-same S (j ∷ js) = ap (λ (t : Bool). not (misses p (margin_of s) S.space j) && t) (group-same S js)
+
   cuts-same : (w axis : ℕ) (space : Space) → may_be_cut w (in_version_3 s) axis space ≡ may_be_cut w s axis space
   cuts-same w axis space = ap (λ (t : Bool). cond t (test_axis (is_wide_domain w) axis space) (is_wide w axis (widest space))) (sym (ap (λ (v : ℕ). nat_le 5 v) e))
 
@@ -119,5 +124,7 @@ module _ (s : Loosenings) (e : s.version ≡ 2) (p : Problem) where
   honest_in_version_3 w S (branch_by (cut_axis axis c)) = ap₂ (λ (t : Bool) (u : Bool). not_shown p s S && t && u && is_middle_at axis c S.space) (settled-same S) (cuts-same w axis S.space)
   honest_in_version_3 w S (branch_by (flip_axis axis)) = ap (λ (t : Bool). not_shown p s S && t) (settled-same S)
   honest_in_version_3 w S (branch_by (case_atom j)) = ap (λ (t : Bool). not_shown p s S && t && may p s (with_no S j) && not (misses p (margin_of s) S.space j)) (settled-same S)
+  honest_in_version_3 w S (branch_by (either_group js ks)) =
+      ap₂ (λ (t : Bool) (u : Bool). t && u) (ap₂ (λ (t : Bool) (u : Bool). not_shown p s S && t && u) (settled-same S) (group-same S js)) (group-same S ks)
   honest_in_version_3 w S (stay_by (stuck_atom j)) = ap₂ (λ (t : Bool) (u : Bool). not_shown p s S && t && is_small w S.space && u) (settled-same S) (below-same S j)
   honest_in_version_3 w S _ = refl

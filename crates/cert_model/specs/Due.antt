@@ -2,7 +2,7 @@
 use Rattle.cover_line.specs.Line.{Block, bound_of, no_factor, Factor}
 use Rattle.std.specs.Prelude.{ℕ, List, [], ◌∷◌, ◌++◌, Bool, true, false, not, ◌&&◌, ◌||◌, Option, Some, None, nat_eq, nat_lt, length}
 use Rattle.dyadic.specs.Rounding.{exact}
-use Rattle.cover_line.specs.Words.{RuleWord, Operands, of_nothing, of_atom, of_lemma, of_atom_lemma, of_axis, of_axis_place, of_multipliers, of_squares, operands_of}
+use Rattle.cover_line.specs.Words.{RuleWord, Operands, of_nothing, of_atom, of_lemma, of_atom_lemma, of_axis, of_axis_place, of_multipliers, of_squares, of_groups, operands_of}
 use Rattle.cert_read.specs.CertLine.{BoolWord, says_false, says_true, says_both}
 use Rattle.interval_model.specs.Space.{Domain, bool_domain, Space}
 use Rattle.poly_graph.specs.Problem.{Axis, Problem, first_crossed}
@@ -147,6 +147,7 @@ are_there p (of_axis axis) = is_axis p axis
 are_there p (of_axis_place axis c) = is_axis p axis
 are_there p (of_multipliers ms) = are_atoms p ms
 are_there p (of_squares ms bs) = are_atoms p ms && are_blocks_there p bs
+are_there p (of_groups js ks) = all_below (length p.atoms) js && all_below (length p.atoms) ks
 
 -- the atoms and axes that the line names are there
 abbrev pub names_well : Problem → Line → Bool

@@ -52,7 +52,7 @@ impl Walk {
 
     fn take(&mut self, word: &str) -> Result<(), AllocError> {
         match Word::spelled(word.as_bytes()) {
-            Some(Word::Cut | Word::Flip | Word::Case) => self.branch()?,
+            Some(Word::Cut | Word::Flip | Word::Case | Word::Either) => self.branch()?,
             Some(Word::Void(_) | Word::Squares | Word::False | Word::By | Word::Empty) =>
                 self.close(),
             Some(Word::Open | Word::Stuck) => {

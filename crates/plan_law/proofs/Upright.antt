@@ -11,10 +11,10 @@ use Rattle.poly_graph.specs.Problem.{Problem, atom_at}
 use Rattle.poly_graph.proofs.Bools.{not_both}
 use Rattle.cover_model.specs.Space.{range}
 use Rattle.cover_model.specs.OffRange.{off_range}
-use Rattle.cover_model.specs.State.{State, Loosenings, margin_of, may}
+use Rattle.cover_model.specs.State.{State, Loosenings, margin_of, with_yes, may}
 use Rattle.cover_model.specs.Narrowed.{from_parents, own, narrowed_from, narrowed, some_empty, set_axis, with_axes, enclosures, narrowed_by}
 use Rattle.cover_model.specs.Combination.{Multipliers, Part, Expansion, expansion, range_of, part_range, allowed_range, tightened, with_axis, with_intervals, combined_about, marked_range}
-use Rattle.cover_model.specs.Rules.{is_void_by_squares, Line, narrow_by, Narrowing, by_range, by_off_range, by_combination, end_by, void_by, by_squares, false_form, by_lemma, mark_by, Marking, unit_atom, ban_atom, branch_by, Branching, cut_axis, flip_axis, case_atom, stay_by, open_state, stuck_atom, open_line, stuck, Left, closed, one, two, stays, can_narrow, narrowed_to, lemma_covers, can_mark, marked, can_branch, first_child, second_child, is_stuck_atom, when, pulled, voided, rule}
+use Rattle.cover_model.specs.Rules.{is_void_by_squares, Line, narrow_by, Narrowing, by_range, by_off_range, by_combination, end_by, void_by, by_squares, false_form, by_lemma, mark_by, Marking, unit_atom, ban_atom, branch_by, Branching, cut_axis, flip_axis, case_atom, either_group, with_all_yes, stay_by, open_state, stuck_atom, open_line, stuck, Left, closed, one, two, stays, can_narrow, narrowed_to, lemma_covers, can_mark, marked, can_part, is_parted, can_branch, first_child, second_child, is_stuck_atom, when, pulled, voided, rule}
 
 -- ---- intervals
 
@@ -189,15 +189,25 @@ module _ (p : Problem) (s : Loosenings) (lemmas : List State) (S : State) (u : I
   mark-upright (unit_atom j) = u
   mark-upright (ban_atom j i) = u
 
-  first-upright : (b : Branching) → IsTrue (can_branch S b) → IsTrue (is_upright (first_child S b).space)
+  -- the space is the state's
+  group-space : (T : State) (js : List ℕ) → (with_all_yes T js).space ≡ T.space
+  group-space T [] = refl
+  group-space T (j ∷ js) = group-space (with_yes T j) js
+
+  group-upright : (js : List ℕ) → IsTrue (is_upright (with_all_yes S js).space)
+  group-upright js = subst (λ (x : Space). IsTrue (is_upright x)) (sym (group-space S js)) u
+
+  first-upright : (b : Branching) → IsTrue (can_part S b) → IsTrue (is_upright (first_child S b).space)
   first-upright (cut_axis axis c) e = changed-upright (lower_part c) (strictly_inside c) (lower-upright c) axis S.space u e
   first-upright (flip_axis axis) e = changed-upright (keep false) is_undecided (keep-upright false) axis S.space u e
   first-upright (case_atom j) e = u
+  first-upright (either_group js ks) e = group-upright js
 
-  second-upright : (b : Branching) → IsTrue (can_branch S b) → IsTrue (is_upright (second_child S b).space)
+  second-upright : (b : Branching) → IsTrue (can_part S b) → IsTrue (is_upright (second_child S b).space)
   second-upright (cut_axis axis c) e = changed-upright (upper_part c) (strictly_inside c) (upper-upright c) axis S.space u e
   second-upright (flip_axis axis) e = changed-upright (keep true) is_undecided (keep-upright true) axis S.space u e
   second-upright (case_atom j) e = u
+  second-upright (either_group js ks) e = group-upright ks
 
   -- Q follows for the lines at which a state may stay
   pub rule_upright : (l : Line) (Q : Type 0) → (l ≡ open_line → Q) → ((j : ℕ) → l ≡ stuck j → IsTrue (is_stuck_atom p s S j) → Q) → UprightIf Q (rule p s lemmas S l)
@@ -207,6 +217,6 @@ module _ (p : Problem) (s : Loosenings) (lemmas : List State) (S : State) (u : I
   rule_upright (end_by false_form) Q f g = by-when Q (not (may p s S)) closed (λ e. tt)
   rule_upright (end_by (by_lemma i)) Q f g = by-when Q (lemma_covers lemmas i S) closed (λ e. tt)
   rule_upright (mark_by m) Q f g = by-when Q (can_mark p s lemmas S m) (one (marked S m)) (λ e. mark-upright m)
-  rule_upright (branch_by b) Q f g = by-when Q (can_branch S b) (two (first_child S b) (second_child S b)) (λ e. (first-upright b e, second-upright b e))
+  rule_upright (branch_by b) Q f g = by-when Q (can_branch p s S b) (two (first_child S b) (second_child S b)) (λ e. let c = (both_true (can_part S b) (is_parted p s S b) e).0 in (first-upright b c, second-upright b c))
   rule_upright (stay_by open_state) Q f g = f refl
   rule_upright (stay_by (stuck_atom j)) Q f g = by-when Q (is_stuck_atom p s S j) stays (g j refl)
