@@ -57,9 +57,10 @@ class Results:
             if os.path.exists(self.path):
                 self.read()  # another run may have added rows
             for key, value in about.items():
-                there = self.about.get(key, '').split('; ')
-                if value and value not in there:
-                    self.about[key] = '; '.join([*filter(None, there), value])
+                there = [*filter(None, self.about.get(key, '').split('; '))]
+                new = [it for it in value.split('; ') if it and it not in there]
+                if new:
+                    self.about[key] = '; '.join([*there, *new])
             self.rows[self.key(row)] = {it: row.get(it, '') for it in self.columns}
             self.write()
         finally:

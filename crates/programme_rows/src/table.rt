@@ -18,7 +18,7 @@ const TRACE_2: &[(usize, usize, usize, f64)] = &[(0, 0, 0, 1.0), (0, 1, 1, 1.0)]
 
 const TRACE_3: &[(usize, usize, usize, f64)] = &[(0, 0, 0, 1.0), (0, 1, 1, 1.0), (0, 2, 2, 1.0)];
 
-pub const ROWS: [Row; 10] = [
+pub const ROWS: [Row; 9] = [
     Row {
         name: "the least trace with a one beside the diagonal",
         rights: &[1.0],
@@ -176,27 +176,6 @@ pub const ROWS: [Row; 10] = [
         ],
         costs: &[],
         least: 0.0,
-    },
-    // the same of x y, which is none: 0.5 is above 0
-    Row {
-        name: "no sum of squares",
-        rights: &[0.0, 0.0, 0.0, 0.0, 1.0, 0.0],
-        sizes: &[3],
-        scalars: &[],
-        free: &[1.0],
-        coefficients: &[
-            (0, Variable::Entry(0, 0, 0), 1.0),
-            (0, Variable::Free(0), -1.0),
-            (1, Variable::Entry(0, 0, 1), 2.0),
-            (2, Variable::Entry(0, 0, 2), 2.0),
-            (3, Variable::Entry(0, 1, 1), 1.0),
-            (3, Variable::Free(0), -1.0),
-            (4, Variable::Entry(0, 1, 2), 2.0),
-            (5, Variable::Entry(0, 2, 2), 1.0),
-            (5, Variable::Free(0), -1.0),
-        ],
-        costs: &[],
-        least: 0.5,
     },
     // a row that two blocks and a scalar share: the scalar's part costs least
     Row {

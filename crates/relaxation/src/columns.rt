@@ -55,8 +55,12 @@ fn mark_under(graph: &Graph, marks: &mut [bool]) {
     }
 }
 
-/// Which nodes stand under these.
-pub fn under(alloc: Global, graph: &Graph, roots: &[u32]) -> Result<Vec<bool, Global>, AllocError> {
+/// Which nodes are these or stand under them.
+pub fn nodes_under(
+    alloc: Global,
+    graph: &Graph,
+    roots: &[u32],
+) -> Result<Vec<bool, Global>, AllocError> {
     let mut marks = vec![in alloc; false; graph.len()]?;
     for root in roots {
         mark(&mut marks, *root);
@@ -65,8 +69,8 @@ pub fn under(alloc: Global, graph: &Graph, roots: &[u32]) -> Result<Vec<bool, Gl
     Ok(marks)
 }
 
-// Whether the node is a constant.
-fn is_constant(graph: &Graph, n: u32) -> bool {
+/// Whether the node is a constant.
+pub fn is_constant(graph: &Graph, n: u32) -> bool {
     (n as usize) < graph.len() && matches!(graph.node(n), Node::Const(_))
 }
 

@@ -15,6 +15,7 @@ mod columns;
 mod elimination;
 mod relaxed;
 
+pub use columns::{is_constant, nodes_under};
 pub use elimination::{Elimination, are_many_equations};
 pub use linear_program::Side;
-pub use relaxed::{Refutation, Relaxation, Weights, is_asking};
+pub use relaxed::{Refutation, Relaxation, Weights, is_asking, margin_of};

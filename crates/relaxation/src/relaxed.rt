@@ -1,5 +1,5 @@
 // The linear programme of a box's marked atoms.
-use crate::columns::{Columns, columns_after, span_at, under, values};
+use crate::columns::{Columns, columns_after, nodes_under, span_at, values};
 use dyadic::{Dy, two_to_minus};
 use floats::{Adjoints, Span, approximate, at, coefficients, multiplier, span_of_domain};
 use ival::{Domain, Rows, Space};
@@ -102,8 +102,8 @@ pub(crate) fn asked(
     }
 }
 
-// The margin of so many bits.
-pub(crate) fn margin_of(bits: u32) -> f64 {
+/// The margin of so many bits, 2 to the power of minus them, of 120 where there are more.
+pub fn margin_of(bits: u32) -> f64 {
     approximate(two_to_minus(if bits > 120 { 120 } else { bits }))
 }
 
@@ -269,7 +269,7 @@ fn relaxation_of(
     let values = values(alloc, boxed.centre_rows)?;
     let centre = centre_of(alloc, boxed.centre)?;
     let roots = roots_of(alloc, boxed.problem, &atoms)?;
-    let marks = under(alloc, graph, &roots)?;
+    let marks = nodes_under(alloc, graph, &roots)?;
     let axes = differences(alloc, boxed.space, &centre)?;
     let columns = columns_after(alloc, graph, &marks, boxed.rows, &values, axes)?;
     let count = columns.spans.len();

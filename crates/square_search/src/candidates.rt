@@ -1,9 +1,7 @@
 // The atoms that are marked, and are not yet known to lie where the mark asks for.
-use dyadic::two_to_minus;
-use floats::approximate;
 use ival::{Rows, Space};
 use poly_graph::{Kind, Lits, Mark, Problem};
-use relaxation::is_asking;
+use relaxation::{is_asking, margin_of};
 use std::alloc::{AllocError, Global};
 
 /// A line has at most so many atoms.
@@ -43,12 +41,6 @@ fn sign_of(kind: Kind, mark: Mark) -> f64 {
     }
 }
 
-// The margin of the box.
-fn margin_of(boxed: &Boxed) -> f64 {
-    let bits = boxed.margin_bits;
-    approximate(two_to_minus(if bits > 120 { 120 } else { bits }))
-}
-
 // Atom j, if it is a candidate.
 fn candidate_at(boxed: &Boxed, j: usize) -> Option<Candidate> {
     let atoms = boxed.problem.atoms();
@@ -62,7 +54,7 @@ fn candidate_at(boxed: &Boxed, j: usize) -> Option<Candidate> {
     let Ok(atom) = u32::try_from(j) else {
         return None;
     };
-    let margin = margin_of(boxed);
+    let margin = margin_of(boxed.margin_bits);
     let kind = atoms[j].kind;
     Some(Candidate {
         atom,
