@@ -216,7 +216,7 @@ class Cover:
         return [no] if self.cites(numbers[1], yes) else None
 
     def after_groups(self, groups: Groups, state: State) -> Optional[List[State]]:
-        """The same for two groups of atoms, of which one holds as a whole wherever the form does."""
+        """The same for two groups of atoms, of which one holds as a whole where the form does."""
         if not self.are_groups(groups) or any(it in state.marks for it in groups.atoms()):
             return None
         for pair in product(*groups):
