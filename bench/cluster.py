@@ -51,7 +51,7 @@ def timed(*words):
 
 def splits(cert):
     with open(cert) as file:
-        return sum(1 for line in file if re.match('cut |flip |case ', line))
+        return sum(1 for line in file if re.match('cut |flip |case |either ', line))
 
 
 def by_cluster(program, checker, script, cert):

@@ -53,7 +53,7 @@ def splits(program: str, script: str) -> str:
         done = subprocess.run([program, 'solve', '--budget', str(BUDGET), path, kept], check=True,
                               text=True, stdout=subprocess.PIPE, stderr=subprocess.DEVNULL)
         with open(kept, encoding='ascii') as file:
-            count = len(re.findall(r'^(?:cut|flip|case) ', file.read(), re.M))
+            count = len(re.findall(r'^(?:cut|flip|case|either) ', file.read(), re.M))
     return f'{count:,}' if done.stdout.startswith('unsat\n') else 'open'
 
 

@@ -68,7 +68,7 @@ def main(program):
                     file.write(text)
                 answer = subprocess.run([program, 'solve', script, cert], stdout=subprocess.PIPE, text=True).stdout.split('\n')[0]
                 with open(cert) as file:
-                    found.append((answer, len(re.findall('^(?:cut|flip|case) ', file.read(), re.M))))
+                    found.append((answer, len(re.findall('^(?:cut|flip|case|either) ', file.read(), re.M))))
             (answer, first), (other, second) = found
             print(f'| {name} | {answer if answer == other else f"{answer}, {other}"} | {first} | {second} |')
 

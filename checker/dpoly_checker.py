@@ -31,6 +31,7 @@ import sys
 import time
 from copy import copy
 from fractions import Fraction
+from itertools import product
 from typing import (Any, Callable, Collection, Dict, Iterable, Iterator, List, Mapping, NamedTuple,
                     Optional, Sequence, Tuple)
 
@@ -70,6 +71,9 @@ class State:
 
     def marked(self, atom: int, mark: bool) -> State:
         return State(self.space, {**self.marks, atom: mark})
+
+    def all_marked(self, atoms: Iterable[int], mark: bool) -> State:
+        return State(self.space, {**self.marks, **dict.fromkeys(atoms, mark)})
 
     def on(self, axis: int, domain: Tuple[int, int]) -> State:
         """The state with another domain of one axis."""
@@ -173,6 +177,8 @@ class Cover:
         first = numbers[0] if numbers else None
         if word in ('unit', 'ban', 'case'):
             return self.after_marking(word, numbers, state)
+        if word == 'either':
+            return self.after_groups(first, state)
         if word == 'false':
             return [] if not self.may(state) else None
         if word == 'by':
@@ -208,6 +214,20 @@ class Cover:
         if word == 'unit':
             return [yes] if not self.may(no, atom) else None
         return [no] if self.cites(numbers[1], yes) else None
+
+    def after_groups(self, groups: Groups, state: State) -> Optional[List[State]]:
+        """The same for two groups of atoms, of which one holds as a whole where the form does."""
+        if not self.are_groups(groups) or any(it in state.marks for it in groups.atoms()):
+            return None
+        for pair in product(*groups):
+            if self.may(state.all_marked(pair, False), pair[0]):
+                return None
+        return [state.all_marked(it, True) for it in groups]
+
+    def are_groups(self, groups: Groups) -> bool:
+        """Whether each has an atom, they ascend, and there are few ways to choose one of each."""
+        ways = len(groups.first) * len(groups.second)
+        return 0 < ways <= self.version.most_choices and all(map(ascends, groups))
 
     def after_narrowing(self, rule: Rule, numbers: Values, state: State) -> Optional[List[State]]:
         """The same for the lines that narrow by an atom or by a combination, or close by squares."""
@@ -417,10 +437,23 @@ class Squares(NamedTuple):
         yield from (('X', it) for it in self.axes())
 
 
+class Groups(NamedTuple):
+    """What stands behind the word of a branch with two groups of atoms."""
+    first: List[int]
+    second: List[int]
+
+    def atoms(self) -> List[int]:
+        return [*self.first, *self.second]
+
+    def names(self) -> Iterator[Tuple[str, int]]:
+        """Atoms, each with its letter."""
+        yield from (('A', it) for it in self.atoms())
+
+
 def named(word: str, values: Values) -> Iterator[Tuple[str, Any]]:
     """What stands behind the word of a line of a tree, each with its letter; of a sum of squares
-    its atoms and axes."""
-    if RULES[word].operands == 'S':
+    its atoms and axes, of two groups their atoms."""
+    if RULES[word].operands in ('S', 'G'):
         yield from values[0].names()
     else:
         yield from zip(RULES[word].kinds(len(values)), values)
@@ -452,6 +485,10 @@ class Operands:
         while self.at < len(self.words):
             blocks.append(self.block())
         return Squares(pairs, blocks)
+
+    def groups(self) -> Groups:
+        first = self.many(self.natural(), self.natural)
+        return Groups(first, self.many(len(self.words) - self.at, self.natural))
 
     def block(self) -> Block:
         kind = self.natural()
@@ -494,6 +531,8 @@ class Lines:
             raise CertificateFault('BadLine')
         if kinds == 'S':
             return word, [Operands(rest).squares()]
+        if kinds == 'G':
+            return word, [Operands(rest).groups()]
         if len(kinds) != len(rest):
             raise CertificateFault('BadLine')
         if kinds == 'T' and rest[0] not in DOMAINS:

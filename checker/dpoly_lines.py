@@ -11,7 +11,8 @@ LEFT = {'narrows': 1, 'marks': 1, 'parts': 2, 'ends': 0, 'stays': 0}
 class Rule(NamedTuple):
     """The lines of one word: their shape; a letter for each operand, A an atom, X an axis, M a
     lemma, D a number of the grid, with `+` behind them where all of them may come again, S all that
-    a sum of squares has; and what narrows or closes the box, if anything does."""
+    a sum of squares has, G two groups of atoms; and what narrows or closes the box, if anything
+    does."""
     shape: str
     operands: str = ''
     by: str = ''
@@ -46,6 +47,7 @@ RULES: Dict[str, Rule] = {
     'cut': Rule('parts', 'XD'),
     'flip': Rule('parts', 'X'),
     'case': Rule('parts', 'A'),
+    'either': Rule('parts', 'G'),
     'open': Rule('stays'),
     'stuck': Rule('stays', 'A'),
 }
@@ -53,11 +55,13 @@ RULES: Dict[str, Rule] = {
 
 class Version(NamedTuple):
     """A version of the format: what its certificates are of, by the keys of `BEHIND_BOUND`, what
-    may narrow a box, how many pairs a combination has at most, and whether an honest line may cut
-    any Real axis above the least width, or the widest alone, which no checker asks."""
+    may narrow a box, how many pairs a combination has at most, in how many ways an atom of the one
+    group of a line `either` can be chosen with one of the other at most, and whether an honest line
+    may cut any Real axis above the least width, or the widest alone, which no checker asks."""
     of: FrozenSet[str]
     narrows: Tuple[str, ...]
     most_pairs: int
+    most_choices: int
     cuts_any: bool
 
 
@@ -66,11 +70,11 @@ BEHIND_BOUND = {'one check': ('cover', 'point'), 'several checks': ('checks',),
                 'least value': ('lower',)}
 ALL_NARROW = ('range', 'off-range', 'combination')
 VERSIONS: Dict[int, Version] = {
-    1: Version(frozenset({'one check'}), ('range',), 0, False),
-    2: Version(frozenset({'one check'}), ALL_NARROW, 64, False),
-    3: Version(frozenset({'several checks'}), ALL_NARROW, 64, False),
-    4: Version(frozenset({'least value'}), ALL_NARROW, 64, False),
-    5: Version(frozenset(BEHIND_BOUND), (*ALL_NARROW, 'squares'), 512, True),
+    1: Version(frozenset({'one check'}), ('range',), 0, 0, False),
+    2: Version(frozenset({'one check'}), ALL_NARROW, 64, 0, False),
+    3: Version(frozenset({'several checks'}), ALL_NARROW, 64, 0, False),
+    4: Version(frozenset({'least value'}), ALL_NARROW, 64, 0, False),
+    5: Version(frozenset(BEHIND_BOUND), (*ALL_NARROW, 'squares'), 512, 64, True),
 }
 
 

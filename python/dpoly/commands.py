@@ -107,7 +107,7 @@ def splits_in(certificate: bytes) -> List[Optional[int]]:
             inside = line == b"tree"
         elif line == b"end":
             inside = False
-        elif inside and line.startswith((b"cut ", b"flip ", b"case ")):
+        elif inside and line.startswith((b"cut ", b"flip ", b"case ", b"either ")):
             found[-1] = (found[-1] or 0) + 1
     return found
 

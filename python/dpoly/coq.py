@@ -13,6 +13,7 @@ import sys
 from collections import Counter
 from copy import copy
 from fractions import Fraction
+from itertools import product
 from typing import Any, Dict, Iterable, Iterator, List, NamedTuple, Optional, Sequence, Tuple
 
 from .plain import checker  # isort: skip
@@ -22,7 +23,7 @@ from dpoly_roots import Trees, rewritten  # noqa: E402
 from dpoly_script import Claim, Expression, Names, Problem, ScriptFault, read_expressions, steps_of  # noqa: E402
 
 PIECE = 200  # lines in one definition
-# What Coq calls the lines of a word; those of `false` and `unit` name a conjunct besides.
+# What Coq calls the lines of a word; those of `false`, `unit` and `either` name conjuncts besides.
 CONSTRUCTORS = {"pull": "LPull", "push": "LPush", "comb": "LComb", "void": "LVoid", "voidno": "LVoidNo", "voidcomb": "LVoidComb",
                 "voidpos": "LVoidPos", "by": "LBy", "over": "LOver", "ban": "LBan", "cut": "LCut", "flip": "LFlip", "case": "LCase"}
 WIDEST_BOUND = 2**32 - 1
@@ -427,6 +428,24 @@ class Follower:
                 return it + 1
         return None
 
+    def failing_with(self, state: Any, atoms: Iterable[int], first: Sequence[int] = ()) -> Optional[int]:
+        """The same at a state with marks of these atoms; `first` are looked at before the others."""
+        conjuncts = self.target.conjuncts
+        near = [it for atom in atoms for it in conjuncts.of_atom.get(self.atom(atom) - 1, [])]
+        return self.failing(state, [*first, *near]) or self.failing(state, range(len(conjuncts.list)))
+
+    def groups(self, groups: Any, state: Any) -> Optional[str]:
+        """Two groups of atoms, and conjuncts of which one cannot be true where an atom of each fails."""
+        found: List[int] = []
+        for pair in product(*groups):
+            conjunct = self.failing_with(state.all_marked(pair, False), pair, [it - 1 for it in found])
+            if conjunct is None:
+                return None
+            if conjunct not in found:
+                found.append(conjunct)
+        texts = ["; ".join(map(str, it)) for it in (*(map(self.atom, group) for group in groups), found)]
+        return " ".join(f"[{it}]%positive" for it in texts)
+
     def pairs(self, pairs: Iterable[Tuple[int, int]]) -> str:
         """The pairs of a combination. Their order is the certificate's, whatever their numbers are here."""
         return "; ".join(f"weigh {self.atom(j)} {grid(by)}" for j, by in pairs)
@@ -446,14 +465,16 @@ class Follower:
             return None, None
         if word in ("false", "unit"):
             asked = state.marked(numbers[0], False) if word == "unit" else state
-            near = self.target.conjuncts.of_atom.get(self.atom(numbers[0]) - 1, []) if word == "unit" else []
-            conjunct = self.failing(asked, near) or self.failing(asked, range(len(self.target.conjuncts.list)))
+            conjunct = self.failing_with(asked, numbers)
             if conjunct is None:
                 return None, None
             return (f"LFalse {conjunct}", []) if word == "false" else (f"LUnit {self.atom(numbers[0])} {conjunct}", [state.marked(numbers[0], True)])
         left = self.cover.after(word, numbers, state, main)
         if left is None:
             return None, None
+        if word == "either":
+            groups = self.groups(numbers[0], state)
+            return (None, None) if groups is None else (f"LEither {groups}", left)
         return " ".join([CONSTRUCTORS[word], *self.operands(word, numbers)]), left
 
     def operands(self, word: str, numbers: Sequence[Any]) -> Iterator[str]:

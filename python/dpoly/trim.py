@@ -2,15 +2,16 @@
 
 A line that narrows is needed where an end that it moves is used below: by a leaf, or by a line that is needed itself and narrows by
 atoms that have the axis. A mark, a value of a Bool constant and a side of a cut are needed where something below uses them; where a
-child of a `cut`, `flip` or `case` needs nothing of what the line gives it, the child stands in the place of the line. Lines that are
-left compute what they computed, since all ends that they read are as they were. Lemmas that nothing cites are left out as well, and
-the others hold wherever the ends and marks that their trees need are given.
+child of a `cut`, `flip`, `case` or `either` needs nothing of what the line gives it, the child stands in the place of the line. Lines
+that are left compute what they computed, since all ends that they read are as they were. Lemmas that nothing cites are left out as
+well, and the others hold wherever the ends and marks that their trees need are given.
 """
 from __future__ import annotations
 
 import os
 import sys
 import time
+from itertools import product
 from typing import Any, Dict, FrozenSet, Iterator, List, NamedTuple, Optional, Sequence, Set, Tuple
 
 from .plain import checker  # isort: skip
@@ -103,6 +104,15 @@ class Follower:
                     found.append(None if None in below else set().union(*below))  # type: ignore[arg-type]
         return found
 
+    def choices(self, groups: Any, state: Any) -> Set[Need]:
+        """What makes the form false where an atom of each of two groups fails, for each two of them."""
+        found: Set[Need] = set()
+        for pair in product(*groups):
+            why = self.reason(state.all_marked(pair, False))
+            assert why is not None
+            found |= why - {("mark", atom) for atom in pair}
+        return found
+
     @staticmethod
     def moved(before: Any, after: Any) -> FrozenSet[Need]:
         """The ends that differ between two spaces."""
@@ -143,6 +153,9 @@ class Follower:
             return Line(text, len(left), (given,) * len(left), self.lemma_needs[lemma] - given), left
         if word == "cut":
             return Line(text, 2, (frozenset({("high", first)}), frozenset({("low", first)})), none), left
+        if word == "either":
+            marks = tuple(frozenset(("mark", atom) for atom in group) for group in first)
+            return Line(text, 2, marks, frozenset(self.choices(first, state))), left
         if word in ("flip", "case"):
             given = frozenset({("bool" if word == "flip" else "mark", first)})
             return Line(text, 2, (given, given), none), left

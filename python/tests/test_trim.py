@@ -32,6 +32,15 @@ SQUARES_ROWS = [
     (f"cut 2 0/unit 7/{BOUNDED}/unit 7/{BOUNDED}", f"cut 2 0/unit 7/{BOUNDED}/unit 7/{BOUNDED}"),
     (f"cut 2 0/unit 7/{APART}/unit 7/{BOUNDED}", f"unit 7/{APART}"),
 ]
+# x is at most 1/4 or at least 3/4, where y is at most 1/2; and x^2 is 1/4
+GROUPS = ("(declare-const x Real)(assert (<= 0 x 1))(declare-const y Real)(assert (<= 0 y 1))(assert (<= (* 2 y) 1))"
+          "(assert (or (>= (* 1 x) (/ 3 4)) (<= (* 1 x) (/ 1 4)) (>= (* 1 y) (/ 3 4))))(assert (= (* x x) (/ 1 4)))(check-sat)")
+BOTH = "either 1 5 6/pull 5/void 8/pull 6/void 8"
+GROUPS_ROWS = [
+    (f"unit 4/unit 8/pull 4/{BOTH}", f"unit 4/unit 8/pull 4/{BOTH}"),  # where y is above 1/2 neither group has to hold
+    (f"unit 0/unit 4/unit 8/pull 0/pull 4/{BOTH}", f"unit 4/unit 8/pull 4/{BOTH}"),
+    (f"unit 4/unit 8/pull 4/either 1 0 1/{BOTH}/{BOTH}", f"unit 4/unit 8/pull 4/{BOTH}"),
+]
 LEAST = SCRIPT.replace("(check-sat)", "(minimize (* 1 x))(check-sat)")
 SEVERAL = "(declare-const x Real)(assert (<= 0 x 1))(assert (>= (* x x) 2))(check-sat)(check-sat)"
 PART = "cover 0/keep 0/tree/unit 2/void 2/end"
@@ -80,6 +89,20 @@ class Trim(unittest.TestCase):
                 before = texts[0].replace("dpoly 5", "dpoly 2").encode()
                 self.assertRaises(coq.Refused, coq.theorem, SQUARES.encode(), before)
                 self.assertRaises(trim.Untrimmed, trim.trim, SQUARES.encode(), before)
+
+    def test_groups(self):
+        from dpoly import coq, trim
+
+        head = header(5) + "cover 0\ntree\n"
+        for lines, wanted in GROUPS_ROWS:
+            texts = [head + it.replace("/", "\n") + "\nend\n" for it in (lines, wanted)]
+            with self.subTest(lines):
+                self.assertEqual(plain.checker.check(GROUPS.encode(), texts[0].encode())[0], 0)
+                self.assertEqual(trim.trim_fully(GROUPS.encode(), texts[0].encode()).decode(), texts[1])
+                self.assertIn("LEither [6]%positive [7]%positive [6]%positive", coq.theorem(GROUPS.encode(), texts[0].encode()))
+                before = texts[0].replace("dpoly 5", "dpoly 2").encode()
+                self.assertRaises(coq.Refused, coq.theorem, GROUPS.encode(), before)
+                self.assertRaises(trim.Untrimmed, trim.trim, GROUPS.encode(), before)
 
     def test_command(self):
         with tempfile.TemporaryDirectory() as folder:
