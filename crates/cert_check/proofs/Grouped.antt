@@ -1,5 +1,5 @@
 -- Groups of atoms, place by place, and marks that are put back.
-use Rattle.std.proofs.Common.{◌≡◌, ℕ, zero, suc, ◌+◌, ◌<◌, ◌≤◌, List, [], ◌∷◌, length, drop, get_or, set, Bool, true, false, ◌&&◌, not, IsTrue, nat_lt, refl, ap, ap₂, sym, ◌∙◌, subst, arith, ltb→lt, true≢false, Option, Some, None}
+use Rattle.std.proofs.Common.{◌≡◌, ℕ, zero, suc, ◌+◌, ◌<◌, ◌≤◌, List, [], ◌∷◌, length, drop, get_or, set, Bool, true, false, ◌&&◌, not, IsTrue, nat_lt, refl, ap, ap₂, sym, ◌∙◌, arith, ltb→lt, true≢false, Some, None}
 use Rattle.std.proofs.lemmas.List.{drop_more, drop_all}
 use Rattle.std.specs.List.{list_all}
 use Rattle.std.specs.Bool.{passes}
@@ -7,7 +7,7 @@ use Rattle.dyadic.proofs.Equal.{both_true}
 use Rattle.poly_graph.specs.Problem.{Problem}
 use Rattle.poly_graph.specs.Marks.{Mark, marked_yes, marked_no, unmarked, is_unmarked, mark_at, undecided_in}
 use Rattle.cover_model.specs.State.{State, Loosenings, undecided, with_yes, with_no, may}
-use Rattle.cover_model.specs.Rules.{Left, two, when, either, either_group, is_ascending, are_undecided, with_all_yes, none_may_fail, one_holds, can_branch, rule}
+use Rattle.cover_model.specs.Rules.{two, when, either, either_group, is_ascending, are_undecided, with_all_yes, none_may_fail, one_holds, can_branch, rule}
 use Rattle.cert_model.specs.Due.{all_below, ascends}
 use Rattle.cert_check.specs.Lists.{marked}
 use Rattle.cert_check.proofs.OneMark.{undecided_at, set_twice}

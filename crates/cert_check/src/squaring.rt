@@ -15,31 +15,13 @@ use crate::combination::can_combine;
 use crate::left::Left;
 use crate::loosenings::Loosenings;
 use crate::state::State;
-use crate::tools::atom_at;
 use cover_line::Block;
-use cover_model::off_range_ends;
 use dyadic::Dy;
-use form_truth::kind_range;
 use ival::{Ival, Space};
+use plain_eval::marked_range;
 use poly_graph::Problem;
 use squares::{Combination, is_positive};
 use std::alloc::{AllocError, Global};
-
-// Where the value of the atom's term lies, by the atom's mark.
-fn marked_range(problem: &Problem, s: Loosenings, state: &State, j: u32) -> Ival
-    requires fits { Fits problem.now (state_of state.now) }
-    requires atom { j < length problem.now.atoms }
-    ensures { interval_of result ≡
-        range_at (problem_of problem.now) (loosenings_of s) (state_of state.now) j }
-{
-    let kind = atom_at(problem, j).kind;
-    if state.in_no(j) {
-        let (low, high) = off_range_ends(kind, s.margin);
-        Ival::new(low, high)
-    } else {
-        kind_range(kind, s.margin)
-    }
-}
 
 // The ranges of the atoms' values, by their marks.
 fn ranges_of(
@@ -56,7 +38,7 @@ fn ranges_of(
 {
     let mut ranges = Vec::new(alloc);
     for pair in pairs {
-        ranges.push(marked_range(problem, s, state, pair.0))?;
+        ranges.push(marked_range(problem, s.margin, &state.lits, pair.0))?;
     }
     Ok(ranges)
 }

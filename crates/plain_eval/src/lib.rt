@@ -38,4 +38,5 @@ pub use enclosing::enclose;
 pub use following::follow;
 pub use narrowing::{narrow_enclosed, narrow_off_enclosed};
 pub use room::{Coefficients, Room};
+pub use start::marked_range;
 pub use upward::Upward;

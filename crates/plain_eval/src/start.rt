@@ -48,8 +48,9 @@ fn off_range(kind: Kind, loosen: u32) -> Ival
     Ival::new(low, high)
 }
 
-// The range of an atom's term by its mark: its off-range where it is marked no.
-fn marked_range(problem: &Problem, loosen: u32, lits: &Lits, j: u32) -> Ival
+/// The range of an atom's term by its mark: its off-range where it is marked no. The atom is loosened by 2 to the power
+/// of minus `loosen`.
+pub fn marked_range(problem: &Problem, loosen: u32, lits: &Lits, j: u32) -> Ival
     requires loosen { loosen ≤ 120 }
     requires atom { j < length problem.now.atoms }
     requires lits { length lits.now ≡ length problem.now.atoms }

@@ -16,26 +16,26 @@ set-requires-2 c =
 pub set-requires-3 : goal.set-requires-3
 set-requires-3 c =
     omega (
-  arith,
-  undecided_there c.args.state.now.lits c.args.k c.requires.second,
-  ap length c.set.ensures,
-  length-set c.args.state.now.lits c.args.j marked_no,
-  ap length c.set-2.ensures,
-  length-set c.set.new.self c.args.k marked_no,
-)
+      arith,
+      undecided_there c.args.state.now.lits c.args.k c.requires.second,
+      ap length c.set.ensures,
+      length-set c.args.state.now.lits c.args.j marked_no,
+      ap length c.set-2.ensures,
+      length-set c.set.new.self c.args.k marked_no,
+    )
 
 pub set-requires-4 : goal.set-requires-4
 set-requires-4 c =
     omega (
-  arith,
-  undecided_there c.args.state.now.lits c.args.j c.requires.first,
-  ap length c.set.ensures,
-  length-set c.args.state.now.lits c.args.j marked_no,
-  ap length c.set-2.ensures,
-  length-set c.set.new.self c.args.k marked_no,
-  ap length c.set-3.ensures,
-  length-set c.set-2.new.self c.args.k unmarked,
-)
+      arith,
+      undecided_there c.args.state.now.lits c.args.j c.requires.first,
+      ap length c.set.ensures,
+      length-set c.args.state.now.lits c.args.j marked_no,
+      ap length c.set-2.ensures,
+      length-set c.set.new.self c.args.k marked_no,
+      ap length c.set-3.ensures,
+      length-set c.set-2.new.self c.args.k unmarked,
+    )
 
 pub returns-clause-same : goal.returns-clause-same
 returns-clause-same c =

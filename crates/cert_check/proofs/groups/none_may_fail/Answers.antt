@@ -1,4 +1,4 @@
-use Rattle.std.proofs.Common.{ap, ◌∙◌, true, get_or}
+use Rattle.std.proofs.Common.{ap, ◌∙◌, get_or}
 use Rattle.cover_model.specs.State.{State, undecided}
 use Rattle.cert_check.specs.States.{state_of}
 use Rattle.cert_check.proofs.Grouped.{undecided_place}

@@ -94,6 +94,12 @@ lines-preserved-in-Ok-10 c =
     let told : IsNextLine (lines_ahead left) left new (Ok (Some c.in-Ok-Some.line)) = subst (λ (o : Option Line). IsNextLine (lines_ahead left) left new (Ok o)) c.in-Ok-Some.field-0-is c.in-Ok-Some.ensures.lines in
     goes_on c.args.self.now c.args.reader.now c.lines.self left c.lines.invariant new c.in-Ok-Some.line c.line.new.self told c.in-Ok.ensures
 
+pub lines-preserved-in-Ok-11 : goal.lines-preserved-in-Ok-11
+lines-preserved-in-Ok-11 c =
+    let left = c.lines.reader in let new = c.next_line.new.self in
+    let told : IsNextLine (lines_ahead left) left new (Ok (Some c.in-Ok-Some.line)) = subst (λ (o : Option Line). IsNextLine (lines_ahead left) left new (Ok o)) c.in-Ok-Some.field-0-is c.in-Ok-Some.ensures.lines in
+    goes_on c.args.self.now c.args.reader.now c.lines.self left c.lines.invariant new c.in-Ok-Some.line c.line.new.self told c.in-Ok.ensures
+
 pub returns-in-Err-clause-lines : goal.returns-in-Err-clause-lines
 returns-in-Err-clause-lines c =
     ends_fault c.args.self.now c.args.reader.now c.lines.self c.lines.reader c.lines.invariant c.next_line.new.self c.in-Err.fault c.refuse.new.self c.refuse.result c.in-Err.ensures.lines c.refuse.ensures
