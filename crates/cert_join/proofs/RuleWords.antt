@@ -6,8 +6,8 @@ use Rattle.std.specs.Str.Parse.{digits_value}
 use Rattle.std.proofs.lemmas.Bool.Decides.{eqb_tells}
 use Rattle.std.proofs.lemmas.Fmt.{digits_decimal}
 use Rattle.std.proofs.lemmas.Str.Parse.{IsNumeralModel, tells_all_ascii_digits, numerals_by_value}
-use Rattle.cover_line.specs.Words.{void_squares_word, RuleWord, empty_word, pull_word, unit_word, ban_word, void_word, push_word, void_no_word, false_word, by_word, cut_word, flip_word, case_word, open_word, stuck_word, combine_word, void_combine_word, narrowing_word, voiding_word, word_of, word_text}
-use Rattle.cover_model.specs.Rules.{Line, ban, by, narrow_by, Narrowing, by_range, by_off_range, by_combination, end_by, void_by, by_squares, false_form, by_lemma, mark_by, unit_atom, ban_atom, branch_by, cut_axis, flip_axis, case_atom, stay_by, open_state, stuck_atom}
+use Rattle.cover_line.specs.Words.{void_squares_word, RuleWord, empty_word, pull_word, unit_word, ban_word, void_word, push_word, void_no_word, false_word, by_word, cut_word, flip_word, case_word, either_word, open_word, stuck_word, combine_word, void_combine_word, narrowing_word, voiding_word, word_of, word_text}
+use Rattle.cover_model.specs.Rules.{Line, ban, by, narrow_by, Narrowing, by_range, by_off_range, by_combination, end_by, void_by, by_squares, false_form, by_lemma, mark_by, unit_atom, ban_atom, branch_by, cut_axis, flip_axis, case_atom, either_group, stay_by, open_state, stuck_atom}
 use Rattle.cert_read.specs.CertLine.{CertLine, version, margin, delta, bound, lower, goal, over, checks, cover, keep, point_word, tree_word, end_word, lemma, real_interval, real_value, bool_value, yes_list, no_list, rule_line, crossing}
 use Rattle.cert_read.specs.LineText.{IsSpelled, spaced, line_words, line_text}
 use Rattle.cert_read.specs.Lines.{words_of}
@@ -32,7 +32,7 @@ abbrev pub is_naming_text : List ℕ → Bool
 is_naming_text w = bytes_eq w (word_text by_word) || bytes_eq w (word_text ban_word)
 
 abbrev pub decoded : List ℕ → RuleWord
-decoded w = cond (bytes_eq w (word_text void_squares_word)) void_squares_word (cond (bytes_eq w (word_text void_combine_word)) void_combine_word (cond (bytes_eq w (word_text combine_word)) combine_word (cond (bytes_eq w (word_text stuck_word)) stuck_word (cond (bytes_eq w (word_text open_word)) open_word (cond (bytes_eq w (word_text case_word)) case_word (cond (bytes_eq w (word_text flip_word)) flip_word (cond (bytes_eq w (word_text cut_word)) cut_word (cond (bytes_eq w (word_text by_word)) by_word (cond (bytes_eq w (word_text false_word)) false_word (cond (bytes_eq w (word_text void_no_word)) void_no_word (cond (bytes_eq w (word_text push_word)) push_word (cond (bytes_eq w (word_text void_word)) void_word (cond (bytes_eq w (word_text ban_word)) ban_word (cond (bytes_eq w (word_text unit_word)) unit_word (cond (bytes_eq w (word_text pull_word)) pull_word empty_word)))))))))))))))
+decoded w = cond (bytes_eq w (word_text void_squares_word)) void_squares_word (cond (bytes_eq w (word_text void_combine_word)) void_combine_word (cond (bytes_eq w (word_text combine_word)) combine_word (cond (bytes_eq w (word_text stuck_word)) stuck_word (cond (bytes_eq w (word_text open_word)) open_word (cond (bytes_eq w (word_text either_word)) either_word (cond (bytes_eq w (word_text case_word)) case_word (cond (bytes_eq w (word_text flip_word)) flip_word (cond (bytes_eq w (word_text cut_word)) cut_word (cond (bytes_eq w (word_text by_word)) by_word (cond (bytes_eq w (word_text false_word)) false_word (cond (bytes_eq w (word_text void_no_word)) void_no_word (cond (bytes_eq w (word_text push_word)) push_word (cond (bytes_eq w (word_text void_word)) void_word (cond (bytes_eq w (word_text ban_word)) ban_word (cond (bytes_eq w (word_text unit_word)) unit_word (cond (bytes_eq w (word_text pull_word)) pull_word empty_word))))))))))))))))
 
 -- The spelling of a rule's word tells which word it is.
 pub record IsWordTold (w : RuleWord) : Type 0 where
@@ -55,6 +55,7 @@ word_told by_word = record { one = refl; which = refl; names = refl; other = ref
 word_told cut_word = record { one = refl; which = refl; names = refl; other = refl }
 word_told flip_word = record { one = refl; which = refl; names = refl; other = refl }
 word_told case_word = record { one = refl; which = refl; names = refl; other = refl }
+word_told either_word = record { one = refl; which = refl; names = refl; other = refl }
 word_told open_word = record { one = refl; which = refl; names = refl; other = refl }
 word_told stuck_word = record { one = refl; which = refl; names = refl; other = refl }
 word_told combine_word = record { one = refl; which = refl; names = refl; other = refl }
@@ -90,6 +91,7 @@ line-told (mark_by (ban_atom j i)) = (refl, refl)
 line-told (branch_by (cut_axis axis c)) = (refl, refl)
 line-told (branch_by (flip_axis axis)) = (refl, refl)
 line-told (branch_by (case_atom j)) = (refl, refl)
+line-told (branch_by (either_group js ks)) = (refl, refl)
 line-told (stay_by open_state) = (refl, refl)
 line-told (stay_by (stuck_atom j)) = (refl, refl)
 

@@ -1,6 +1,6 @@
 -- What a line of a tree leaves of its state, which its first word tells, and the lemma that it names.
 use Rattle.std.specs.Prelude.{◌≡◌, ℕ, ◌+◌, ◌-◌, ◌^◌, List, [], ◌∷◌, ◌++◌, codes, decimal, Bool, true, false, min, Option, Some, None, is_some}
-use Rattle.cover_line.specs.Words.{RuleWord, pull_word, unit_word, ban_word, push_word, cut_word, flip_word, case_word, open_word, stuck_word, combine_word}
+use Rattle.cover_line.specs.Words.{RuleWord, pull_word, unit_word, ban_word, push_word, cut_word, flip_word, case_word, either_word, open_word, stuck_word, combine_word}
 use Rattle.cover_model.specs.Rules.{Line, narrow_by, end_by, by_lemma, mark_by, ban_atom, branch_by, stay_by, open_state, stuck_atom}
 use Rattle.cert_read.specs.CertLine.{CertLine, rule_line}
 use Rattle.cert_read.specs.LineText.{line_text}
@@ -24,6 +24,7 @@ kind_of_word ban_word = One
 kind_of_word cut_word = Two
 kind_of_word flip_word = Two
 kind_of_word case_word = Two
+kind_of_word either_word = Two
 kind_of_word open_word = Open
 kind_of_word stuck_word = Stuck
 kind_of_word w = Nothing

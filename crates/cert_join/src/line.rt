@@ -54,7 +54,7 @@ fn left_by(word: Word) -> Left
     match word {
         Word::Narrow(_) | Word::Unit | Word::Ban => Left::One,
         Word::Void(_) | Word::Squares | Word::False | Word::By | Word::Empty => Left::Nothing,
-        Word::Cut | Word::Flip | Word::Case => Left::Two,
+        Word::Cut | Word::Flip | Word::Case | Word::Either => Left::Two,
         Word::Open => Left::Open,
         Word::Stuck => Left::Stuck,
     }

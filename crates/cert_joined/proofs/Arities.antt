@@ -45,7 +45,7 @@ rule-has : (p : Problem) (s : Loosenings) (lemmas : List State) (S : State) (l :
 rule-has p s lemmas S (narrow_by n) = cond-has goes_on (can_narrow p s S n) (pulled S (narrowed_to p s S n)) (pulled-has S (narrowed_to p s S n))
 rule-has p s lemmas S (end_by e) = ending-has p s lemmas S e
 rule-has p s lemmas S (mark_by m) = when-has (can_mark p s lemmas S m) (one (marked S m))
-rule-has p s lemmas S (branch_by b) = when-has (can_branch S b) (two (first_child S b) (second_child S b))
+rule-has p s lemmas S (branch_by b) = when-has (can_branch p s S b) (two (first_child S b) (second_child S b))
 rule-has p s lemmas S (stay_by t) = when-has (can_stay p s S t) stays
 
 pub arity_is : (p : Problem) (s : Loosenings) (lemmas : List State) (S : State) (l : Line) (x : Left) → rule p s lemmas S l ≡ Some x → arity l ≡ left_arity x

@@ -1,7 +1,7 @@
 -- What some lines say.
 use Rattle.std.proofs.Common.{◌≡◌, [], ◌∷◌, codes, refl, pos, neg_ℤ, Some, None, map, ◌*◌, ◌^◌}
 use Rattle.cert_read.specs.Lines.{lines_of}
-use Rattle.cover_line.specs.Line.{no_factor, bound_of, make_false, cut, combine, void_combine, void_squares}
+use Rattle.cover_line.specs.Line.{no_factor, bound_of, make_false, cut, combine, void_combine, void_squares, either}
 use Rattle.cert_read.specs.CertLine.{parsed, line, bad_line, bad_number, rule_line, version, margin, delta, bound, lower, over, cover, tree_word, end_word, real_interval, yes_list, no_list, bool_value, says_both}
 
 whole_certificate : map parsed (lines_of (codes "dpoly 1\nmargin 20\ndelta 10\nbound none\ncover 0\ntree\nfalse\nend\n")) ≡
@@ -37,3 +37,8 @@ squares : map parsed (lines_of (codes "voidpos 1 4 1b0 0 2 1 0 1 1 1b0 -1b0 0\nv
     bad_line ∷ bad_number ∷ line (rule_line (void_squares [] [])) ∷ bad_line ∷ bad_line ∷
     line (rule_line (void_squares [] (record { factor = bound_of 3; monomials = (3 ∷ 3 ∷ []) ∷ []; rows = (record { units = pos (2 ^ 120) } ∷ []) ∷ [] } ∷ []))) ∷ [])
 squares = refl
+
+groups : map parsed (lines_of (codes "either 1 4 5\neither 2 0 1 2 3 7\neither 1 4\neither 0\neither\neither 2 4\neither 2 4 x\neither 1 4 05\neither 4294967296 4")) ≡
+    (line (rule_line (either (4 ∷ []) (5 ∷ []))) ∷ line (rule_line (either (0 ∷ 1 ∷ []) (2 ∷ 3 ∷ 7 ∷ []))) ∷ line (rule_line (either (4 ∷ []) [])) ∷ line (rule_line (either [] [])) ∷
+    bad_line ∷ bad_line ∷ bad_number ∷ bad_number ∷ bad_number ∷ [])
+groups = refl

@@ -17,9 +17,9 @@ use Rattle.cover_model.specs.Space.{enclosure, range}
 use Rattle.cover_model.specs.OffRange.{off_range}
 use Rattle.cover_model.specs.Narrowed.{from_parents, own, narrowed_from, narrowed, some_empty, set_axis, with_axes, enclosures, narrowed_by}
 use Rattle.cover_model.specs.Combination.{Multipliers, Part, Expansion, part_range, tightened, with_axis, with_intervals, range_of, combined_about, allowed_range, expansion, marked_range}
-use Rattle.cover_model.specs.State.{State, Loosenings, margin_of, with_mark, may}
+use Rattle.cover_model.specs.State.{State, Loosenings, margin_of, with_mark, with_yes, may}
 use Rattle.cover_model.specs.Fits.{FitsAxis, FitsAxes, FitsProblem}
-use Rattle.cover_model.specs.Rules.{is_void_by_squares, Line, narrow_by, end_by, mark_by, branch_by, stay_by, Narrowing, by_range, by_off_range, by_combination, Ending, void_by, by_squares, false_form, by_lemma, Marking, unit_atom, ban_atom, Branching, cut_axis, flip_axis, case_atom, Left, closed, one, two, stays, rule, ending, when, pulled, voided, combining, can_narrow, narrowed_to, can_mark, marked, can_branch, first_child, second_child, can_stay, lemma_covers, with_changed}
+use Rattle.cover_model.specs.Rules.{is_void_by_squares, Line, narrow_by, end_by, mark_by, branch_by, stay_by, Narrowing, by_range, by_off_range, by_combination, Ending, void_by, by_squares, false_form, by_lemma, Marking, unit_atom, ban_atom, Branching, cut_axis, flip_axis, case_atom, either_group, with_all_yes, Left, closed, one, two, stays, rule, ending, when, pulled, voided, combining, can_narrow, narrowed_to, can_mark, marked, can_part, is_parted, can_branch, first_child, second_child, can_stay, lemma_covers, with_changed}
 use Rattle.cert_resumed.proofs.Parses.{all_append}
 use Rattle.cover_model.specs.Derivation.{Tree, Lawful, at_closed, at_left, at_step, at_fork}
 
@@ -224,10 +224,14 @@ module _ (p : Problem) (g : IsProblem p) (s : Loosenings) (lemmas : List State) 
   voided-fit None = tt
   voided-fit (Some space) = tt
 
-  module _ (S : State) (f : FitsProblem p S) where
-    mark-fits : (j : ℕ) (m : Mark) → FitsProblem p (with_mark S j m)
-    mark-fits j m = record { axes = f.axes; marks = length-set S.marks j m ∙ f.marks }
+  mark-fits : (S : State) → FitsProblem p S → (j : ℕ) (m : Mark) → FitsProblem p (with_mark S j m)
+  mark-fits S f j m = record { axes = f.axes; marks = length-set S.marks j m ∙ f.marks }
 
+  group-fits : (S : State) → FitsProblem p S → (js : List ℕ) → FitsProblem p (with_all_yes S js)
+  group-fits S f [] = f
+  group-fits S f (j ∷ js) = group-fits (with_yes S j) (mark-fits S f j marked_yes) js
+
+  module _ (S : State) (f : FitsProblem p S) where
     change-fits : (k : Domain → Domain) (t : Domain → Bool) → ((a : Declared) (d : Domain) → IsTrue (t d) → FitsAxis a d → FitsAxis a (k d)) → (axis : ℕ) → IsTrue (test_axis t axis S.space) → FitsProblem p (with_changed S k axis)
     change-fits k t h axis e = record { axes = changed-fits k t h p.axes axis S.space e f.axes; marks = f.marks }
 
@@ -248,13 +252,17 @@ module _ (p : Problem) (g : IsProblem p) (s : Loosenings) (lemmas : List State) 
     narrowing-fits (by_combination ms) = combine-fits ms
 
     marking-fits : (m : Marking) → FitsProblem p (marked S m)
-    marking-fits (unit_atom j) = mark-fits j marked_yes
-    marking-fits (ban_atom j i) = mark-fits j marked_no
+    marking-fits (unit_atom j) = mark-fits S f j marked_yes
+    marking-fits (ban_atom j i) = mark-fits S f j marked_no
 
-    branching-fits : (b : Branching) → IsTrue (can_branch S b) → FitsProblem p (first_child S b) × FitsProblem p (second_child S b)
-    branching-fits (cut_axis axis c) e = (change-fits (lower_part c) (strictly_inside c) (low-fits c) axis e, change-fits (upper_part c) (strictly_inside c) (high-fits c) axis e)
-    branching-fits (flip_axis axis) e = (change-fits (keep false) is_undecided (keep-fits false) axis e, change-fits (keep true) is_undecided (keep-fits true) axis e)
-    branching-fits (case_atom j) e = (mark-fits j marked_yes, mark-fits j marked_no)
+    part-fits : (b : Branching) → IsTrue (can_part S b) → FitsProblem p (first_child S b) × FitsProblem p (second_child S b)
+    part-fits (cut_axis axis c) e = (change-fits (lower_part c) (strictly_inside c) (low-fits c) axis e, change-fits (upper_part c) (strictly_inside c) (high-fits c) axis e)
+    part-fits (flip_axis axis) e = (change-fits (keep false) is_undecided (keep-fits false) axis e, change-fits (keep true) is_undecided (keep-fits true) axis e)
+    part-fits (case_atom j) e = (mark-fits S f j marked_yes, mark-fits S f j marked_no)
+    part-fits (either_group js ks) e = (group-fits S f js, group-fits S f ks)
+
+    branching-fits : (b : Branching) → IsTrue (can_branch p s S b) → FitsProblem p (first_child S b) × FitsProblem p (second_child S b)
+    branching-fits b e = part-fits b (both_true (can_part S b) (is_parted p s S b) e).0
 
     ending-fits : (e : Ending) → LeftFit (ending p s lemmas S e)
     ending-fits (void_by n) = by-cond (can_narrow p s S n) (voided (narrowed_to p s S n)) (voided-fit (narrowed_to p s S n))
@@ -266,7 +274,7 @@ module _ (p : Problem) (g : IsProblem p) (s : Loosenings) (lemmas : List State) 
     rule-fits (narrow_by n) = by-cond (can_narrow p s S n) (pulled S (narrowed_to p s S n)) (narrowing-fits n)
     rule-fits (end_by e) = ending-fits e
     rule-fits (mark_by m) = by-when (can_mark p s lemmas S m) (one (marked S m)) (λ e. marking-fits m)
-    rule-fits (branch_by b) = by-when (can_branch S b) (two (first_child S b) (second_child S b)) (branching-fits b)
+    rule-fits (branch_by b) = by-when (can_branch p s S b) (two (first_child S b) (second_child S b)) (branching-fits b)
     rule-fits (stay_by t) = by-when (can_stay p s S t) stays (λ e. tt)
 
   -- so do the states that a lawful tree leaves

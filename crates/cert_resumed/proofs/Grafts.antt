@@ -53,7 +53,7 @@ rule-stays : (p : Problem) (s : Loosenings) (lemmas : List State) (S : State) (l
 rule-stays p s lemmas S (narrow_by n) = cond-goes (can_narrow p s S n) (pulled S (narrowed_to p s S n)) (pulled-goes S (narrowed_to p s S n))
 rule-stays p s lemmas S (end_by e) = ending-goes p s lemmas S e
 rule-stays p s lemmas S (mark_by m) = when-stays (can_mark p s lemmas S m) (one (marked S m))
-rule-stays p s lemmas S (branch_by b) = when-stays (can_branch S b) (two (first_child S b) (second_child S b))
+rule-stays p s lemmas S (branch_by b) = when-stays (can_branch p s S b) (two (first_child S b) (second_child S b))
 rule-stays p s lemmas S (stay_by t) = when-stays (can_stay p s S t) stays
 
 pub leaves_where_stays : (p : Problem) (s : Loosenings) (lemmas : List State) (S : State) (l : Line) (x : Left) → rule p s lemmas S l ≡ Some x → is_leaving l ≡ is_stays x

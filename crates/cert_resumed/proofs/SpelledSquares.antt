@@ -1,15 +1,15 @@
--- Words that are read from the left as squares are their spellings.
+-- Words that are read from the left, as squares and as groups, are their spellings.
 use Rattle.std.proofs.Common.{◌≡◌, ℕ, zero, suc, List, [], ◌∷◌, ◌++◌, append_assoc, map, Option, Some, None, length, refl, ap, sym, subst, ◌∙◌}
 use Rattle.std.specs.Prelude.{decimal}
 use Rattle.std.specs.List.{AllByRecursion}
 use Rattle.dyadic.specs.Rounding.{Dyadic}
 use Rattle.dyadic.specs.NumberText.{number_spelling}
 use Rattle.cover_line.specs.Line.{Multipliers, Factor, bound_of, Block}
-use Rattle.cover_line.specs.Words.{of_squares}
-use Rattle.cert_read.specs.CertLine.{count_of, dyadic_of, Taken, taken, ill_formed, no_number, and_take, taken_if, take_count, take_dyadic, take_many, take_pair, take_monomial, take_rows, factor_by, take_factor, take_block_of, take_block, take_blocks, take_squares}
+use Rattle.cover_line.specs.Words.{of_squares, of_groups}
+use Rattle.cert_read.specs.CertLine.{count_of, counts_of, dyadic_of, Taken, taken, ill_formed, no_number, and_take, taken_if, take_count, take_dyadic, take_many, take_pair, take_monomial, take_rows, factor_by, take_factor, take_block_of, take_block, take_blocks, take_squares, take_list, take_groups}
 use Rattle.cert_read.specs.LineText.{pair_words, factor_words, monomial_words, row_words, block_words, operand_words, IsCount, IsSpelledNumber, IsSpelledPair, IsSpelledFactor, IsSpelledMonomial, AreSpelledRows, IsSpelledBlock, AreSpelledOperands}
 use Rattle.cert_read.proofs.Spelled.{AreCleanWords}
-use Rattle.cert_resumed.proofs.SpelledNumbers.{count_back, number_back}
+use Rattle.cert_resumed.proofs.SpelledNumbers.{count_back, counts_back, number_back}
 
 abbrev Words : Type 0
 Words = List (List ℕ)
@@ -177,7 +177,7 @@ blocks-taken (suc n) (w ∷ ws) c =
     (λ b vs e h d. and-back blocks-alone (AllByRecursion IsSpelledBlock) blocks-alone (AllByRecursion IsSpelledBlock) vs (w ∷ ws) (take_blocks n vs) (λ bs us. taken (b ∷ bs) us) (blocks-taken n vs d)
     (λ bs us i k a. (ap (block-then b) i ∙ e, (h, k), a)))
 
--- ---- the whole line
+-- ---- the whole line of squares
 
 abbrev pub squares_alone : (Multipliers × List Block) → List (List ℕ) → List (List ℕ)
 squares_alone x vs = operand_words (of_squares x.0 x.1)
@@ -194,6 +194,37 @@ squares_back ws c =
     (λ ms us i k b. and-back blocks-alone (AllByRecursion IsSpelledBlock) squares_alone AreSpelledSquares us ws (take_blocks (length us) us) (λ bs ts. taken (ms, bs) ts) (blocks-taken (length us) us b)
     (λ bs ts g r a. (
       ap (λ (j : ℕ). decimal j ∷ (pair_words ms ++ block_words bs)) k.0 ∙ ap (λ (xs : Words). decimal n ∷ (pair_words ms ++ xs)) g ∙ ap (λ (xs : Words). decimal n ∷ xs) i ∙ e,
+      (subst IsCount (sym k.0) h, k.1, r),
+      a,
+    ))))
+
+-- ---- the whole line of two groups
+
+-- nothing is left behind the second
+abbrev list-alone : List ℕ → Words → Words
+list-alone ks vs = map decimal ks
+
+list-taken : (ws : Words) → AreCleanWords ws → IsTakenBack list-alone (AllByRecursion IsCount) ws (take_list ws)
+list-taken ws c = from (counts_of ws) (counts_back ws) where
+  from : (o : Option (List ℕ)) → ((ks : List ℕ) → o ≡ Some ks → (map decimal ks ≡ ws) × AllByRecursion IsCount ks) → IsTakenBack list-alone (AllByRecursion IsCount) ws (taken_if o [])
+  from None g = tt
+  from (Some ks) g = let a = g ks refl in (a.0, a.1, tt)
+
+abbrev pub groups_alone : (List ℕ × List ℕ) → List (List ℕ) → List (List ℕ)
+groups_alone x vs = operand_words (of_groups x.0 x.1)
+
+abbrev pub AreSpelledGroups : (List ℕ × List ℕ) → Type 0
+AreSpelledGroups x = AreSpelledOperands (of_groups x.0 x.1)
+
+-- words that are read as two groups are their spelling
+pub groups_back : (ws : List (List ℕ)) → AreCleanWords ws → IsTakenBack groups_alone AreSpelledGroups ws (take_groups ws)
+groups_back ws c =
+    and-back count-then IsCount groups_alone AreSpelledGroups ws ws (take_count ws) (λ n vs. and_take (take_many take_count n vs) (λ js us. and_take (take_list us) (λ ks ts. taken (js, ks) ts))) (count-taken ws c)
+    (λ n vs e h d. and-back (λ js us. map decimal js ++ us) (AreSoMany n IsCount) groups_alone AreSpelledGroups vs ws (take_many take_count n vs) (λ js us. and_take (take_list us) (λ ks ts. taken (js, ks) ts))
+    (counts-taken n vs d)
+    (λ js us i k b. and-back list-alone (AllByRecursion IsCount) groups_alone AreSpelledGroups us ws (take_list us) (λ ks ts. taken (js, ks) ts) (list-taken us b)
+    (λ ks ts g r a. (
+      ap (λ (j : ℕ). decimal j ∷ (map decimal js ++ map decimal ks)) k.0 ∙ ap (λ (xs : Words). decimal n ∷ (map decimal js ++ xs)) g ∙ ap (λ (xs : Words). decimal n ∷ xs) i ∙ e,
       (subst IsCount (sym k.0) h, k.1, r),
       a,
     ))))

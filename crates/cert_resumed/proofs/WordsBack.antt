@@ -6,13 +6,13 @@ use Rattle.std.specs.Str.{bytes_eq}
 use Rattle.std.proofs.lemmas.Slice.Eq.{bytes_eq-Decides}
 use Rattle.dyadic.specs.Rounding.{Dyadic}
 use Rattle.dyadic.specs.NumberText.{number_spelling}
-use Rattle.cover_line.specs.Line.{Multipliers, pull, unit, void, push, void_no, combine, void_combine, void_squares, Block, ban, make_false, by, cut, flip, case, open_line, stuck}
-use Rattle.cover_line.specs.Words.{empty_word, pull_word, unit_word, ban_word, void_word, push_word, void_no_word, false_word, by_word, cut_word, flip_word, case_word, open_word, stuck_word, combine_word, void_combine_word, void_squares_word, of_squares, word_text}
-use Rattle.cert_read.specs.CertLine.{says_false, says_true, says_both, CertLine, version, margin, delta, bound, lower, goal, over, checks, cover, keep, point_word, tree_word, end_word, lemma, real_interval, real_value, bool_value, yes_list, no_list, rule_line, crossing, Parsed, line, bad_line, bad_number, count_of, dyadic_of, counts_of, pairs_of, has_pairs, with_count, with_counts, with_dyadic, with_dyadics, with_both, with_list, with_pairs, Taken, taken, ill_formed, no_number, line_taken, take_squares, alone, counted, counted_twice, placed, paired, squared, listed, bound_in, lower_in, bool_in, real_in, entry, header_forms, tree_forms, or_bad, or_rule, by_first}
+use Rattle.cover_line.specs.Line.{Multipliers, pull, unit, void, push, void_no, combine, void_combine, void_squares, Block, ban, make_false, by, cut, flip, case, either, open_line, stuck}
+use Rattle.cover_line.specs.Words.{empty_word, pull_word, unit_word, ban_word, void_word, push_word, void_no_word, false_word, by_word, cut_word, flip_word, case_word, open_word, stuck_word, combine_word, void_combine_word, void_squares_word, either_word, of_squares, of_groups, word_text}
+use Rattle.cert_read.specs.CertLine.{says_false, says_true, says_both, CertLine, version, margin, delta, bound, lower, goal, over, checks, cover, keep, point_word, tree_word, end_word, lemma, real_interval, real_value, bool_value, yes_list, no_list, rule_line, crossing, Parsed, line, bad_line, bad_number, count_of, dyadic_of, counts_of, pairs_of, has_pairs, with_count, with_counts, with_dyadic, with_dyadics, with_both, with_list, with_pairs, Taken, taken, ill_formed, no_number, line_taken, take_squares, take_groups, alone, counted, counted_twice, placed, paired, squared, grouped, listed, bound_in, lower_in, bool_in, real_in, entry, header_forms, tree_forms, or_bad, or_rule, by_first}
 use Rattle.cert_read.specs.LineText.{pair_words, operand_words, line_words, IsCount, IsSpelledNumber, IsSpelledPair, AreSpelledPairs, AreSpelledOperands, HasSpelling}
 use Rattle.cert_read.proofs.Spelled.{AreCleanWords}
 use Rattle.cert_resumed.proofs.SpelledNumbers.{count_back, number_back, counts_back, pairs_back}
-use Rattle.cert_resumed.proofs.SpelledSquares.{IsTakenBack, squares_alone, AreSpelledSquares, squares_back}
+use Rattle.cert_resumed.proofs.SpelledSquares.{IsTakenBack, squares_alone, AreSpelledSquares, squares_back, groups_alone, AreSpelledGroups, groups_back}
 
 -- the words spell the line
 abbrev pub Spells : List (List ℕ) → CertLine → Type 0
@@ -109,6 +109,14 @@ gives-squares : (name : List ℕ) (f : Multipliers → List Block → CertLine)
     → ((ms : Multipliers) (bs : List Block) → AreSpelledOperands (of_squares ms bs) → (line_words (f ms bs) ≡ name ∷ operand_words (of_squares ms bs)) × HasSpelling (f ms bs)) → Gives name (squared f)
 gives-squares name f k ws l c h = from (take_squares ws) (squares_back ws c) h where
   from : (t : Taken (Multipliers × List Block)) → IsTakenBack squares_alone AreSpelledSquares ws t → line_taken f t ≡ line l → Spells (name ∷ ws) l
+  from (taken x us) a g = let s = k x.0 x.1 a.1 in this-line (name ∷ ws) (f x.0 x.1) l g (s.0 ∙ ap (λ (vs : List (List ℕ)). name ∷ vs) a.0) s.1
+  from ill_formed a g = absurd (no-line l g)
+  from no_number a g = absurd (no-number l g)
+
+gives-groups : (name : List ℕ) (f : List ℕ → List ℕ → CertLine)
+    → ((js ks : List ℕ) → AreSpelledOperands (of_groups js ks) → (line_words (f js ks) ≡ name ∷ operand_words (of_groups js ks)) × HasSpelling (f js ks)) → Gives name (grouped f)
+gives-groups name f k ws l c h = from (take_groups ws) (groups_back ws c) h where
+  from : (t : Taken (List ℕ × List ℕ)) → IsTakenBack groups_alone AreSpelledGroups ws t → line_taken f t ≡ line l → Spells (name ∷ ws) l
   from (taken x us) a g = let s = k x.0 x.1 a.1 in this-line (name ∷ ws) (f x.0 x.1) l g (s.0 ∙ ap (λ (vs : List (List ℕ)). name ∷ vs) a.0) s.1
   from ill_formed a g = absurd (no-line l g)
   from no_number a g = absurd (no-number l g)
@@ -270,10 +278,13 @@ tree-gives = (
                           (
                             gives-squares (word_text void_squares_word) (λ ms bs. rule_line (void_squares ms bs)) (λ ms bs k. (refl, k)),
                             (
-                              gives-alone (word_text false_word) (rule_line make_false) refl tt,
+                              gives-groups (word_text either_word) (λ js ks. rule_line (either js ks)) (λ js ks k. (refl, k)),
                               (
-                                gives-alone (word_text open_word) (rule_line open_line) refl tt,
-                                tt,
+                                gives-alone (word_text false_word) (rule_line make_false) refl tt,
+                                (
+                                  gives-alone (word_text open_word) (rule_line open_line) refl tt,
+                                  tt,
+                                ),
                               ),
                             ),
                           ),

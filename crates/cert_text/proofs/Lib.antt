@@ -1,6 +1,7 @@
 pub mod Appended
 pub mod Counted
 pub mod Forest
+pub mod GroupWords
 pub mod Items
 pub mod Margins
 pub mod Numbers

@@ -5,7 +5,7 @@ use Rattle.std.proofs.lemmas.List.{append-nil}
 use Rattle.dyadic.specs.Rounding.{Dyadic}
 use Rattle.dyadic.specs.NumberText.{number_spelling}
 use Rattle.cover_line.specs.Line.{Multipliers, Line}
-use Rattle.cover_line.specs.Words.{RuleWord, empty_word, pull_word, unit_word, ban_word, void_word, push_word, void_no_word, false_word, by_word, cut_word, flip_word, case_word, open_word, stuck_word, combine_word, void_combine_word, void_squares_word, word_text, word_of, Operands, of_nothing, of_atom, of_lemma, of_atom_lemma, of_axis, of_axis_place, of_multipliers, operands_of}
+use Rattle.cover_line.specs.Words.{RuleWord, empty_word, pull_word, unit_word, ban_word, void_word, push_word, void_no_word, false_word, by_word, cut_word, flip_word, case_word, either_word, open_word, stuck_word, combine_word, void_combine_word, void_squares_word, word_text, word_of, Operands, of_nothing, of_atom, of_lemma, of_atom_lemma, of_axis, of_axis_place, of_multipliers, operands_of}
 use Rattle.cert_read.specs.CertLine.{rule_line}
 use Rattle.cert_read.specs.LineText.{spaced, line_text, pair_words, operand_words, AreSpelledOperands, IsCount}
 use Rattle.cert_model.specs.Accepted.{certificate_text}
@@ -70,6 +70,7 @@ word-short by_word = omega arith
 word-short cut_word = omega arith
 word-short flip_word = omega arith
 word-short case_word = omega arith
+word-short either_word = omega arith
 word-short open_word = omega arith
 word-short stuck_word = omega arith
 word-short combine_word = omega arith

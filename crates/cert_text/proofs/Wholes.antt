@@ -18,6 +18,7 @@ use Rattle.cert_model.specs.Written.{AreLemmaTrees, cover_lines, lemmas_lines, p
 use Rattle.cover_data.specs.declared.margins.Margins.{Margins}
 use Rattle.cover_data.specs.declared.margins.Options.{Options}
 use Rattle.cover_data.specs.Margins.{AreMargins, loosenings_of}
+use Rattle.cover_data.specs.Views.{step_line, end_line}
 use Rattle.cover_book.specs.declared.node.Learned.{Learned}
 use Rattle.cover_book.specs.Model.{NodeModel, crossed_node, BookModel, IsOfRoot, LearnedLemma, lemma_count, problem_in, margins_of, loosenings_in}
 use Rattle.cover_book.specs.declared.node.Node.{Node}
@@ -31,21 +32,25 @@ use Rattle.cover_book.proofs.Opens.{first_crosses}
 use Rattle.cert_text.specs.Texts.{book_lines, crossed_lines, book_text, crossed_text}
 use Rattle.cert_text.specs.Lines.{HasAppended, most_atoms}
 use Rattle.cert_text.specs.Session.{IsEndOf, body_lines, HasAppendedBody}
-use Rattle.cert_text.specs.Parts.{header_lines, whole_point, HasFewMarks, learned_lines, HasAppendedTree, HasAppendedCover, IsCountedCrossing}
+use Rattle.cert_text.specs.Parts.{header_lines, whole_point, HasShortLines, learned_lines, HasAppendedTree, HasAppendedCover, IsCountedCrossing}
 use Rattle.cert_text.specs.Means.{EndsHonestly, HasAppendedTreeOf, IsTreeText, IsCrossedText, IsCertificateOf}
 use Rattle.cert_text.proofs.Spelling.{both_appended}
 use Rattle.cert_text.proofs.Counted.{few_numbers}
+use Rattle.cert_text.proofs.GroupWords.{end_few}
 use Rattle.cert_text.proofs.Margins.{header_fits}
 use Rattle.cert_text.proofs.Proved.{book_text_is_accepted, book_text_branches, book_text_ends_honestly, book_text_is_honest, crossed_text_is_accepted, point_text_is_accepted}
 
 -- ---- what a book has
 
-few-marks : (p : Problem) (s : Loosenings) (before : List State) (xs : List Learned) → length p.atoms ≤ most_atoms → AreLemmaTrees p s before (map lemma_tree (map learned_of xs)) → AllByRecursion HasFewMarks xs
-few-marks p s before [] h g = tt
-few-marks p s before (x ∷ xs) h g = (omega (arith, h, g.0.marks), few-marks p s (before ++ (x.state ∷ [])) xs h g.1)
+short-lines : (p : Problem) (s : Loosenings) (before : List State) (xs : List Learned) → length p.atoms ≤ most_atoms → AreLemmaTrees p s before (map lemma_tree (map learned_of xs)) → AllByRecursion HasShortLines xs
+short-lines p s before [] h g = tt
+short-lines p s before (x ∷ xs) h g = (
+  record { marks = omega (arith, h, g.0.marks); end = end_few p s before x.state (map step_line x.lines.steps.items) (end_line x.lines.end) g.0.lawful },
+  short-lines p s (before ++ (x.state ∷ [])) xs h g.1,
+)
 
-pub marks_few : (b : BookModel) → IsBook b → (xs : List Learned) → map learned_of xs ≡ b.lemmas → AllByRecursion HasFewMarks xs
-marks_few b w xs e = few-marks (problem_in b) (loosenings_in b) b.kept xs w.limits.atoms
+pub lemmas_short : (b : BookModel) → IsBook b → (xs : List Learned) → map learned_of xs ≡ b.lemmas → AllByRecursion HasShortLines xs
+lemmas_short b w xs e = short-lines (problem_in b) (loosenings_in b) b.kept xs w.limits.atoms
     (subst (λ (ys : List LearnedLemma). AreLemmaTrees (problem_in b) (loosenings_in b) b.kept (map lemma_tree ys)) (sym e) w.lemmas)
 
 crossed-within : (axes : List Axis) (i : ℕ) → IsTrue (crossed_in axes i) → i < length axes

@@ -14,6 +14,7 @@ use Rattle.cert_read.specs.CertLine.{CertLine, version, margin, delta, bound, po
 use Rattle.cert_model.specs.Due.{Standing}
 use Rattle.cert_model.specs.Written.{rule_lines, lemmas_lines, point_line}
 use Rattle.cert_text.specs.Lines.{HasAppended, most_atoms}
+use Rattle.cert_text.specs.Ruled.{HasFewGroups}
 
 abbrev pub header_lines : Loosenings → Option ℕ → List CertLine
 header_lines s b = version s.version ∷ margin s.margin_bits ∷ delta s.delta_bits ∷ bound b ∷ []
@@ -24,9 +25,10 @@ kept_lines ls = map step_line ls.steps.items ++ (end_line ls.end ∷ [])
 
 -- ---- lemmas
 
--- a lemma with at most so many marks
-abbrev pub HasFewMarks : Learned → Type 0
-HasFewMarks x = length x.state.marks ≤ most_atoms
+-- a lemma with at most so many marks, and few atoms where its end is a branch
+pub record HasShortLines (x : Learned) : Type 0 where
+  pub marks : length x.state.marks ≤ most_atoms
+  pub end : HasFewGroups (end_line x.lines.end)
 
 -- the lines of these lemmas, numbered from this on
 abbrev pub learned_lines : ℕ → List Learned → List CertLine
@@ -47,6 +49,13 @@ node_lines (crossed_node i) = []
 node_lines (closed_node steps l) = rule_lines (steps ++ (l ∷ []))
 node_lines (parted_node steps l c) = rule_lines (steps ++ (l ∷ []))
 node_lines (stuck_node steps l S) = rule_lines (steps ++ (l ∷ []))
+
+-- a node whose end has few atoms, where it is a branch
+abbrev pub HasShortEnd : NodeModel → Type 0
+HasShortEnd (closed_node steps l) = HasFewGroups l
+HasShortEnd (parted_node steps l c) = HasFewGroups l
+HasShortEnd (stuck_node steps l S) = HasFewGroups l
+HasShortEnd x = Unit {0}
 
 -- what a node itself leaves, with its line
 abbrev pub node_left : NodeModel → List Standing

@@ -2,9 +2,10 @@
 use Rattle.std.specs.Prelude.{◌≡◌, ℕ, ◌<◌, ◌≤◌, ◌*◌, List, [], ◌∷◌, ◌++◌, length, Bool, IsTrue}
 use Rattle.std.specs.List.{AllByRecursion, list_all}
 use Rattle.dyadic.specs.Views.{dyadic_of}
-use Rattle.cover_line.specs.Line.{Block}
+use Rattle.cover_line.specs.Line.{Block, Line, branch_by}
 use Rattle.cover_line.specs.Views.{multipliers_of, blocks_of}
-use Rattle.cover_line.specs.Words.{RuleWord, word_text, Operands, of_nothing, of_atom, of_lemma, of_atom_lemma, of_axis, of_axis_place, of_multipliers, of_squares}
+use Rattle.cover_line.specs.Words.{RuleWord, word_text, Operands, of_nothing, of_atom, of_lemma, of_atom_lemma, of_axis, of_axis_place, of_multipliers, of_squares, of_groups, branching_operands}
+use Rattle.cover_model.specs.Rules.{most_choices}
 use Rattle.square_model.specs.Block.{are_rows}
 use Rattle.square_model.specs.Positive.{all_numbers, most_numbers}
 use Rattle.cert_read.specs.LineText.{operand_words, IsCount, IsSpelledFactor, AreSpelledOperands}
@@ -20,6 +21,7 @@ operands_in (operands.Axis axis) = of_axis axis
 operands_in (operands.AxisPlace axis c) = of_axis_place axis (dyadic_of c)
 operands_in (operands.Multipliers pairs) = of_multipliers (multipliers_of pairs.now)
 operands_in (operands.Squares pairs blocks) = of_squares (multipliers_of pairs.now) (blocks_of blocks.now)
+operands_in (operands.Groups first second) = of_groups first.now second.now
 
 -- each word with a space before it
 abbrev pub after_spaces : List (List ℕ) → List ℕ
@@ -30,11 +32,17 @@ after_spaces (w ∷ ws) = 32 ∷ (w ++ after_spaces ws)
 abbrev pub has_rows : Block → Bool
 has_rows b = are_rows b.monomials b.rows
 
--- from 1 to 512 pairs, where they are pairs; at most 8,000 numbers, where they are those of squares
+-- from 1 to 512 pairs, where they are pairs; at most 8,000 numbers, where they are those of squares; at most 64 atoms in a group
 abbrev pub HasFewPairs : Operands → Type 0
 HasFewPairs (of_multipliers ps) = (0 < length ps) × (length ps ≤ 512)
 HasFewPairs (of_squares ms bs) = (all_numbers ms bs ≤ most_numbers) × IsTrue (list_all has_rows bs)
+HasFewPairs (of_groups js ks) = (length js ≤ most_choices) × (length ks ≤ most_choices)
 HasFewPairs o = Unit {0}
+
+-- the same of a branch
+abbrev pub HasFewGroups : Line → Type 0
+HasFewGroups (branch_by b) = HasFewPairs (branching_operands b)
+HasFewGroups l = Unit {0}
 
 -- its axes are plain numbers
 pub record HasCounts (b : Block) : Type 0 where

@@ -10,6 +10,7 @@ ghost use Rattle.cert_text.specs.Calls.{Appends, AppendsRuled, marked_numbers};
 ghost use Rattle.cert_text.specs.Lines.{HasPairs, counted_line, is_marked, marks_line, marks_word, most_atoms, plain_line};
 ghost use Rattle.cert_text.specs.Ruled.{HasOperands, operands_in};
 
+use crate::groups::append_groups;
 use crate::keyword::{Counted, Plain, counted_bytes, plain_bytes};
 use crate::operands::Operands;
 use crate::squares::append_squares;
@@ -141,6 +142,7 @@ fn append_operands(text: &mut Vec<u8>, operands: &Operands<'_>) -> Result<(), Al
         Operands::AxisPlace(axis, at) => append_pair(text, *axis, *at),
         Operands::Multipliers(pairs) => append_pairs(text, pairs),
         Operands::Squares(pairs, blocks) => append_squares(text, pairs, blocks),
+        Operands::Groups(first, second) => append_groups(text, first, second),
     }
 }
 

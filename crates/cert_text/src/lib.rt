@@ -8,6 +8,7 @@
 mod append;
 mod cover;
 mod facts;
+mod groups;
 pub mod keyword;
 pub mod laws;
 mod line;

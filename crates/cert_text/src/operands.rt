@@ -1,12 +1,12 @@
 // What stands behind the first word of a tree's line.
 ghost use Rattle.std.specs.Prelude.{◌≡◌};
-ghost use Rattle.cover_line.specs.Views.{blocks_of, kind_word, line_of, multipliers_of, narrowing_of, voiding_kind_word};
-ghost use Rattle.cover_line.specs.Words.{narrowing_operands, narrowing_word, of_squares, operands_of, voiding_word};
+ghost use Rattle.cover_line.specs.Views.{blocks_of, branching_of, kind_word, line_of, multipliers_of, narrowing_of, rule_word, voiding_kind_word};
+ghost use Rattle.cover_line.specs.Words.{branching_operands, branching_word, narrowing_operands, narrowing_word, of_squares, operands_of, voiding_word};
 ghost use Rattle.cover_data.specs.Views as kept;
 ghost use Rattle.cert_text.specs.Ruled.{HasFewPairs, operands_in};
 
 use cover_data::{Narrowing as Kept, Squares};
-use cover_line::{Block, Branching, Ending, Marking, Narrowing, NarrowingKind, Rule, Staying};
+use cover_line::{Block, Branching, Ending, Marking, Narrowing, NarrowingKind, Rule, Staying, Word};
 use dyadic::Dy;
 
 /// What stands behind the first word of a tree's line. Numbers are those of atoms, lemmas and axes.
@@ -22,6 +22,8 @@ pub(crate) enum Operands<'a> {
     Multipliers(&'a [(u32, Dy)]),
     /// Atoms, each with its multiplier, and blocks of squares.
     Squares(&'a [(u32, Dy)], &'a [Block]),
+    /// Two groups of atoms.
+    Groups(&'a [u32], &'a [u32]),
 }
 
 fn of_narrowing(narrowing: &Narrowing) -> Operands<'_>
@@ -31,6 +33,18 @@ fn of_narrowing(narrowing: &Narrowing) -> Operands<'_>
         Narrowing::Pull(atom) => Operands::Atom(*atom),
         Narrowing::Push(atom) => Operands::Atom(*atom),
         Narrowing::Combine(pairs) => Operands::Multipliers(pairs),
+    }
+}
+
+/// Those of a branch.
+pub(crate) fn of_branching(branching: &Branching) -> Operands<'_>
+    ensures { operands_in result ≡ branching_operands (branching_of branching.now) }
+{
+    match branching {
+        Branching::Cut(axis, at) => Operands::AxisPlace(*axis, *at),
+        Branching::Flip(axis) => Operands::Axis(*axis),
+        Branching::Case(atom) => Operands::Atom(*atom),
+        Branching::Either(first, second) => Operands::Groups(first, second),
     }
 }
 
@@ -46,9 +60,7 @@ pub(crate) fn of_rule(rule: &Rule) -> Operands<'_>
         Rule::End(Ending::By(lemma)) => Operands::Lemma(*lemma),
         Rule::Mark(Marking::Unit(atom)) => Operands::Atom(*atom),
         Rule::Mark(Marking::Ban(atom, lemma)) => Operands::AtomLemma(*atom, *lemma),
-        Rule::Branch(Branching::Cut(axis, at)) => Operands::AxisPlace(*axis, *at),
-        Rule::Branch(Branching::Flip(axis)) => Operands::Axis(*axis),
-        Rule::Branch(Branching::Case(atom)) => Operands::Atom(*atom),
+        Rule::Branch(branching) => of_branching(branching),
         Rule::Stay(Staying::Open) => Operands::Nothing,
         Rule::Stay(Staying::Stuck(atom)) => Operands::Atom(*atom),
     }
@@ -74,6 +86,18 @@ pub(crate) fn of_kept_squares(squares: &Squares) -> Operands<'_>
     ensures few { HasFewPairs (operands_in result) }
 {
     Operands::Squares(&squares.pairs, &squares.blocks)
+}
+
+/// The first word of a branch's line.
+pub(crate) fn branch_word(branching: &Branching) -> Word
+    ensures { rule_word result ≡ branching_word (branching_of branching.now) }
+{
+    match branching {
+        Branching::Cut(_, _) => Word::Cut,
+        Branching::Flip(_) => Word::Flip,
+        Branching::Case(_) => Word::Case,
+        Branching::Either(_, _) => Word::Either,
+    }
 }
 
 /// What it narrows by.

@@ -10,14 +10,15 @@ ghost use Rattle.cover_book.specs.Views.{learned_of};
 ghost use Rattle.cert_read.specs.CertLine.{rule_line};
 ghost use Rattle.cert_model.specs.Written.{domain_line, lemma_lines, point_line, rule_lines};
 ghost use Rattle.cert_text.specs.Calls.{Appends, header_of};
-ghost use Rattle.cert_text.specs.Parts.{HasFewMarks, kept_lines, learned_lines};
+ghost use Rattle.cert_text.specs.Parts.{HasShortLines, kept_lines, learned_lines};
+ghost use Rattle.cert_text.specs.Ruled.{HasFewGroups};
 
 use crate::append::{
     append_counted, append_interval, append_marks, append_plain, append_ruled, append_value,
 };
 use crate::keyword::{Counted, Plain};
 use crate::line::append_short_rule;
-use crate::operands::{kind_of, of_kept, of_kept_squares};
+use crate::operands::{branch_word, kind_of, of_branching, of_kept, of_kept_squares};
 use cover_book::{Learned, Lines};
 use cover_data::{Closing, End, Options, State, Step};
 use cover_line::{Ending, Rule, Staying, Word};
@@ -111,17 +112,21 @@ fn append_closing(text: &mut Vec<u8>, closing: &Closing) -> Result<(), AllocErro
 }
 
 fn append_end(text: &mut Vec<u8>, end: &End) -> Result<(), AllocError>
+    requires { HasFewGroups (end_line end.now) }
     ensures { Appends text.old text.new (rule_line (end_line end.now) ∷ []) result }
 {
     match end {
         End::Close(closing) => append_closing(text, closing),
-        End::Part(branching) => append_short_rule(text, &Rule::Branch(*branching)),
+        End::Part(branching) => {
+            append_ruled(text, branch_word(branching), &of_branching(branching))
+        }
         End::Stuck(atom) => append_short_rule(text, &Rule::Stay(Staying::Stuck(*atom))),
     }
 }
 
 /// Appends the steps and the end of a patch.
 pub(crate) fn append_lines(text: &mut Vec<u8>, lines: &Lines) -> Result<(), AllocError>
+    requires { HasFewGroups (end_line lines.now.end) }
     ensures { Appends text.old text.new (rule_lines (kept_lines lines.now)) result }
 {
     for step in &lines.steps {
@@ -137,7 +142,7 @@ fn append_lemma_at(
     lemma: &Learned,
     state: &State,
 ) -> Result<(), AllocError>
-    requires few { HasFewMarks lemma.now }
+    requires short { HasShortLines lemma.now }
     requires state { state.now ≡ lemma.now.state }
     ensures { Appends text.old text.new
         (lemma_lines id (lemma_tree (learned_of lemma.now))) result }
@@ -152,7 +157,7 @@ fn append_lemma_at(
 
 // A lemma: its number, its state and its tree.
 fn append_lemma(text: &mut Vec<u8>, id: u32, lemma: &Learned) -> Result<(), AllocError>
-    requires { HasFewMarks lemma.now }
+    requires { HasShortLines lemma.now }
     ensures { Appends text.old text.new
         (lemma_lines id (lemma_tree (learned_of lemma.now))) result }
 {
@@ -167,7 +172,7 @@ pub(crate) fn append_lemmas(
     lemmas: &[Learned],
 ) -> Result<(), AllocError>
     requires few { first + length lemmas.now ≤ most_lemmas }
-    requires marks { AllByRecursion HasFewMarks lemmas.now }
+    requires short { AllByRecursion HasShortLines lemmas.now }
     ensures { Appends text.old text.new (learned_lines first lemmas.now) result }
 {
     for i in 0..lemmas.len() {

@@ -14,8 +14,8 @@ use dyadic::Dy;
 use itoa::Buffer;
 use std::alloc::AllocError;
 
-// How many there are.
-fn append_size(text: &mut Vec<u8>, size: usize) -> Result<(), AllocError>
+/// How many there are.
+pub(crate) fn append_size(text: &mut Vec<u8>, size: usize) -> Result<(), AllocError>
     ensures { OnOk result (HasWords text.old.items (decimal size ∷ []) text.new.items) }
 {
     let mut buffer = Buffer::new();
@@ -23,13 +23,13 @@ fn append_size(text: &mut Vec<u8>, size: usize) -> Result<(), AllocError>
     text.extend_from_slice(buffer.format(size as u64).as_bytes())
 }
 
-// The axes of a monomial.
-fn append_axes(text: &mut Vec<u8>, axes: &[u32]) -> Result<(), AllocError>
-    ensures words { OnOk result (HasWords text.old.items (map decimal axes.now) text.new.items) }
-    ensures counts { OnOk result (AllByRecursion IsCount axes.now) }
+/// Plain numbers.
+pub(crate) fn append_each(text: &mut Vec<u8>, numbers: &[u32]) -> Result<(), AllocError>
+    ensures words { OnOk result (HasWords text.old.items (map decimal numbers.now) text.new.items) }
+    ensures counts { OnOk result (AllByRecursion IsCount numbers.now) }
 {
-    for axis in axes {
-        append_word_and_count(text, "", *axis)?;
+    for number in numbers {
+        append_word_and_count(text, "", *number)?;
     }
     Ok(())
 }
@@ -54,7 +54,7 @@ fn append_monomials(text: &mut Vec<u8>, monomials: &[Vec<u32>]) -> Result<(), Al
 {
     for axes in monomials {
         append_size(text, axes.len())?;
-        append_axes(text, axes)?;
+        append_each(text, axes)?;
     }
     Ok(())
 }

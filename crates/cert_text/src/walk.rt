@@ -1,8 +1,9 @@
 // The walk over the tree of a book.
 ghost use Rattle.std.specs.Prelude.{◌≡◌, ◌++◌, MatchOption, OnOk, map};
+ghost use Rattle.std.specs.List.{AllByRecursion};
 ghost use Rattle.cover_book.specs.Views.{node_of};
 ghost use Rattle.cert_text.specs.Calls.{Appends, IsCrossedAt, IsNotCrossed, IsTaken, NoneWaits};
-ghost use Rattle.cert_text.specs.Parts.{HasAppendedCover, HasAppendedTree, IsCountedCrossing, kids, node_lines};
+ghost use Rattle.cert_text.specs.Parts.{HasAppendedCover, HasAppendedTree, HasShortEnd, IsCountedCrossing, kids, node_lines};
 
 use crate::append::append_counted;
 use crate::keyword::Counted;
@@ -14,6 +15,7 @@ use std::alloc::{AllocError, Global};
 
 // The lines of a node of a tree.
 fn append_node(text: &mut Vec<u8>, node: &Node) -> Result<(), AllocError>
+    requires { HasShortEnd (node_of node.now) }
     ensures { Appends text.old text.new (node_lines (node_of node.now)) result }
 {
     match node {
@@ -57,6 +59,7 @@ pub(crate) fn append_tree(
     alloc: Global,
     nodes: &[Node],
 ) -> Result<(), AllocError>
+    requires { AllByRecursion HasShortEnd (map node_of nodes.now) }
     ensures { OnOk result (HasAppendedTree text.old.items (map node_of nodes.now) text.new.items) }
 {
     let mut waiting = Vec::new(alloc);
@@ -92,7 +95,8 @@ pub(crate) fn append_cover(
     alloc: Global,
     nodes: &[Node],
 ) -> Result<(), AllocError>
-    requires { IsCountedCrossing (map node_of nodes.now) }
+    requires crossing { IsCountedCrossing (map node_of nodes.now) }
+    requires short { AllByRecursion HasShortEnd (map node_of nodes.now) }
     ensures { OnOk result (HasAppendedCover text.old.items (map node_of nodes.now) text.new.items) }
 {
     match crossed_axis(nodes) {

@@ -11,11 +11,11 @@ use Rattle.cover_model.specs.Space.{IsGridSpace}
 use Rattle.poly_graph.specs.Problem.{Declared, real_between, any_bool, Axis, Problem, IsProblem, atom_at}
 use Rattle.poly_graph.specs.Marks.{Mark, is_yes, is_no, mark_at, undecided_in, marked_yes, marked_no}
 use Rattle.cover_model.specs.State.{State, Loosenings, margin_of, in_yes, in_no, undecided, with_space}
-use Rattle.cover_model.specs.Rules.{Block, Line, narrow_by, end_by, mark_by, branch_by, stay_by, Narrowing, by_range, by_off_range, by_combination, void_by, by_squares, false_form, by_lemma, Marking, unit_atom, ban_atom, Branching, cut_axis, flip_axis, case_atom, open_state, stuck_atom, Left, closed, one, stays, rule, when, pulled, voided, can_narrow, narrowed_to, has_version_2, has_version_5, is_void_by_squares, is_one_sided, in_no_one_sided, can_push, is_combination, are_combinable, can_combine, can_mark, marked, can_branch, is_stuck_atom}
+use Rattle.cover_model.specs.Rules.{Block, Line, narrow_by, end_by, mark_by, branch_by, stay_by, Narrowing, by_range, by_off_range, by_combination, void_by, by_squares, false_form, by_lemma, Marking, unit_atom, ban_atom, Branching, cut_axis, flip_axis, case_atom, either_group, open_state, stuck_atom, Left, closed, one, stays, rule, when, pulled, voided, can_narrow, narrowed_to, has_version_2, has_version_5, is_void_by_squares, is_one_sided, in_no_one_sided, can_push, is_combination, are_combinable, can_combine, can_mark, marked, are_undecided, can_part, is_parted, can_branch, is_stuck_atom}
 use Rattle.cover_model.specs.Honest.{is_honest, not_shown, settled, is_small, none_below}
 use Rattle.cover_model.specs.Fits.{FitsAxis, FitsAxes, FitsProblem}
 use Rattle.cover_model.proofs.Stuck.{some_atom_is_stuck}
-use Rattle.cert_model.specs.Due.{names_well, is_atom, are_atoms, are_blocks_there}
+use Rattle.cert_model.specs.Due.{names_well, all_below, is_atom, are_atoms, are_blocks_there}
 use Rattle.cover_model.specs.Combination.{Multipliers, marked_range}
 use Rattle.square_model.specs.Positive.{is_positive}
 use Rattle.cover_data.specs.declared.margins.Margins.{Margins}
@@ -162,10 +162,22 @@ module _ (p : Problem) (g : IsProblem p) (m : Margins) (lemmas : List State) whe
   steps-name S T (l ∷ ls) h e = let k = step-names S e.0 l h e.1 in (k.0, steps-name e.0 T ls k.1 e.2)
 
   -- a branch names an axis or an atom that is there
-  branching-names : (S : State) → FitsProblem p S → (b : Branching) → IsTrue (can_branch S b) → IsTrue (names_well p (branch_by b))
-  branching-names S f (cut_axis axis c) e = axis_there p S.space (axes_length p.axes S.space f.axes) (strictly_inside c) axis e
-  branching-names S f (flip_axis axis) e = axis_there p S.space (axes_length p.axes S.space f.axes) is_undecided axis e
-  branching-names S f (case_atom j) e = atom-there S j f.marks (undecided_below S.marks j e)
+  group-there : (S : State) → FitsProblem p S → (js : List ℕ) → IsTrue (are_undecided S js) → IsTrue (all_below (length p.atoms) js)
+  group-there S f [] e = refl
+  group-there S f (j ∷ js) e =
+      let k = both_true (undecided S j) (are_undecided S js) e in
+      both_pass (is_atom p j) (all_below (length p.atoms) js) (atom-there S j f.marks (undecided_below S.marks j k.0)) (group-there S f js k.1)
+
+  part-names : (S : State) → FitsProblem p S → (b : Branching) → IsTrue (can_part S b) → IsTrue (names_well p (branch_by b))
+  part-names S f (cut_axis axis c) e = axis_there p S.space (axes_length p.axes S.space f.axes) (strictly_inside c) axis e
+  part-names S f (flip_axis axis) e = axis_there p S.space (axes_length p.axes S.space f.axes) is_undecided axis e
+  part-names S f (case_atom j) e = atom-there S j f.marks (undecided_below S.marks j e)
+  part-names S f (either_group js ks) e =
+      let k = both_true (are_undecided S js) (are_undecided S ks) e in
+      both_pass (all_below (length p.atoms) js) (all_below (length p.atoms) ks) (group-there S f js k.0) (group-there S f ks k.1)
+
+  branching-names : (S : State) → FitsProblem p S → (b : Branching) → IsTrue (can_branch p s S b) → IsTrue (names_well p (branch_by b))
+  branching-names S f b e = part-names S f b (both_true (can_part S b) (is_parted p s S b) e).0
 
   -- squares name atoms and axes that are there
   squares-name : (S : State) → length S.space ≡ length p.axes → (ms : Multipliers) (bs : List Block) → IsTrue (is_void_by_squares p s S ms bs) → IsTrue (names_well p (end_by (by_squares ms bs)))

@@ -7,10 +7,10 @@ use Rattle.dyadic.proofs.Equal.{both_true, total}
 use Rattle.interval_model.specs.Space.{Domain, real_domain, bool_domain, Space, strictly_inside, lower_part, upper_part, is_undecided, keep, test_axis, changed}
 use Rattle.poly_graph.specs.Problem.{Declared, real_between, any_bool, Axis, Problem}
 use Rattle.poly_graph.specs.Marks.{Mark, marked_yes, marked_no}
-use Rattle.cover_model.specs.State.{State, Loosenings, with_mark}
-use Rattle.cover_model.specs.Rules.{Line, narrow_by, end_by, mark_by, branch_by, stay_by, Branching, cut_axis, flip_axis, case_atom, can_branch, first_child, second_child, with_changed, when, two, rule}
+use Rattle.cover_model.specs.State.{State, Loosenings, with_yes, with_mark}
+use Rattle.cover_model.specs.Rules.{Line, narrow_by, end_by, mark_by, branch_by, stay_by, Branching, cut_axis, flip_axis, case_atom, either_group, with_all_yes, can_part, is_parted, can_branch, first_child, second_child, with_changed, when, two, rule}
 use Rattle.cover_model.specs.Fits.{FitsAxis, FitsAxes, FitsProblem}
-use Rattle.cover_data.specs.Runs.{CanPart, children, IsEnding}
+use Rattle.cover_data.specs.Runs.{CanPart, CanBranch, children, IsEnding}
 
 -- a changed axis whose new domain is one of such an axis
 pub changed_fits : (f : Domain → Domain) (t : Domain → Bool) → ((a : Declared) (d : Domain) → IsTrue (t d) → FitsAxis a d → FitsAxis a (f d)) →
@@ -51,10 +51,15 @@ abbrev Fit : Problem → Option (State × State) → Type 0
 Fit p None = Unit {0}
 Fit p (Some x) = FitsProblem p x.0 × FitsProblem p x.1
 
-branch-fits : (p : Problem) (S : State) → FitsProblem p S → (b : Branching) → IsTrue (can_branch S b) → FitsProblem p (first_child S b) × FitsProblem p (second_child S b)
+group-fits : (p : Problem) (S : State) → FitsProblem p S → (js : List ℕ) → FitsProblem p (with_all_yes S js)
+group-fits p S f [] = f
+group-fits p S f (j ∷ js) = group-fits p (with_yes S j) (marked_fits p S f j marked_yes) js
+
+branch-fits : (p : Problem) (S : State) → FitsProblem p S → (b : Branching) → IsTrue (can_part S b) → FitsProblem p (first_child S b) × FitsProblem p (second_child S b)
 branch-fits p S f (cut_axis axis c) h = (changed_state_fits p S f (lower_part c) (strictly_inside c) (low-fits c) axis h, changed_state_fits p S f (upper_part c) (strictly_inside c) (high-fits c) axis h)
 branch-fits p S f (flip_axis axis) h = (changed_state_fits p S f (keep false) is_undecided (keep-fits false) axis h, changed_state_fits p S f (keep true) is_undecided (keep-fits true) axis h)
 branch-fits p S f (case_atom j) h = (marked_fits p S f j marked_yes, marked_fits p S f j marked_no)
+branch-fits p S f (either_group js ks) h = (group-fits p S f js, group-fits p S f ks)
 
 children-fit-both : (p : Problem) (S : State) → FitsProblem p S → (l : Line) → CanPart l S → Fit p (children l S)
 children-fit-both p S f (branch_by b) h = branch-fits p S f b h
@@ -70,9 +75,17 @@ ends-if : (b : Bool) (x y : State) → IsTrue b → IsEnding (when b (two x y))
 ends-if true x y h = tt
 ends-if false x y h = absurd (true≢false (sym h))
 
--- where a branch can stand, its rule holds
-pub can_end : (p : Problem) (s : Loosenings) (lemmas : List State) (S : State) (l : Line) → CanPart l S → (x : State × State) → children l S ≡ Some x → IsEnding (rule p s lemmas S l)
-can_end p s lemmas S (branch_by b) h x e = ends-if (can_branch S b) (first_child S b) (second_child S b) h
+-- where its rule holds, a branch has what it parts
+pub can_part_of : (p : Problem) (s : Loosenings) (S : State) (l : Line) → CanBranch p s l S → CanPart l S
+can_part_of p s S (branch_by b) h = (both_true (can_part S b) (is_parted p s S b) h).0
+can_part_of p s S (narrow_by n) h = tt
+can_part_of p s S (end_by e) h = tt
+can_part_of p s S (mark_by m) h = tt
+can_part_of p s S (stay_by t) h = tt
+
+-- a branch ends a run where its rule holds
+pub can_end : (p : Problem) (s : Loosenings) (lemmas : List State) (S : State) (l : Line) → CanBranch p s l S → (x : State × State) → children l S ≡ Some x → IsEnding (rule p s lemmas S l)
+can_end p s lemmas S (branch_by b) h x e = ends-if (can_branch p s S b) (first_child S b) (second_child S b) h
 can_end p s lemmas S (narrow_by n) h x e = cc
 can_end p s lemmas S (end_by y) h x e = cc
 can_end p s lemmas S (mark_by m) h x e = cc

@@ -1,4 +1,5 @@
 pub mod Children
+pub mod Groups
 pub mod Later
 pub mod Pieces
 pub mod Proved

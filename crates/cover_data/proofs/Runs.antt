@@ -69,7 +69,7 @@ module _ (p : Problem) (s : Loosenings) (lemmas : List State) (S : State) where
   -- a branch leaves its two states
   pub branch_leaves : (l : Line) (T U : State) → children l S ≡ Some (T, U) → IsEnding (rule p s lemmas S l) → rule p s lemmas S l ≡ Some (two T U)
   branch_leaves (branch_by b) T U e h =
-      subst (λ (x : Left). when (can_branch S b) (two (first_child S b) (second_child S b)) ≡ Some x) (ap both-of e) (ends-when (can_branch S b) (two (first_child S b) (second_child S b)) h)
+      subst (λ (x : Left). when (can_branch p s S b) (two (first_child S b) (second_child S b)) ≡ Some x) (ap both-of e) (ends-when (can_branch p s S b) (two (first_child S b) (second_child S b)) h)
   branch_leaves (narrow_by n) T U e h = cc
   branch_leaves (end_by x) T U e h = cc
   branch_leaves (mark_by m) T U e h = cc

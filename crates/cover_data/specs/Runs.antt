@@ -3,7 +3,7 @@ use Rattle.std.specs.Prelude.{◌≡◌, List, [], ◌∷◌, All, Option, Some,
 use Rattle.dyadic.specs.Point.{Coordinate}
 use Rattle.poly_graph.specs.Problem.{Problem}
 use Rattle.cover_model.specs.State.{State, Loosenings, IsPointOf, MeetsForm, IsLemma, covers}
-use Rattle.cover_model.specs.Rules.{Line, end_by, branch_by, Left, one, rule, can_branch, first_child, second_child}
+use Rattle.cover_model.specs.Rules.{Line, end_by, branch_by, Left, one, rule, can_part, can_branch, first_child, second_child}
 use Rattle.cover_model.specs.Derivation.{Tree, then}
 use Rattle.cover_model.specs.Honest.{is_honest}
 use Rattle.cover_model.specs.Fits.{FitsProblem}
@@ -52,10 +52,15 @@ kids_by (Some l) S = children l S
 abbrev pub kids_of : KeptModel → Option (State × State)
 kids_of k = kids_by k.end k.reached
 
--- a branch stands where it can: a cut strictly inside a Real axis, a flip of an undecided Bool, a case of an undecided atom
+-- a branch has what it parts: a cut a Real axis around it, a flip an undecided Bool, a case an undecided atom, groups undecided ones
 abbrev pub CanPart : Line → State → Type 0
-CanPart (branch_by b) S = IsTrue (can_branch S b)
+CanPart (branch_by b) S = IsTrue (can_part S b)
 CanPart l S = Unit {0}
+
+-- a branch stands where its rule holds
+abbrev pub CanBranch : Problem → Loosenings → Line → State → Type 0
+CanBranch p s (branch_by b) S = IsTrue (can_branch p s S b)
+CanBranch p s l S = Unit {0}
 
 -- what an end leaves: nothing, two states, or the state itself
 abbrev pub IsEnding : Option Left → Type 0
@@ -79,7 +84,7 @@ pub record IsSoundRun (p : Problem) (s : Loosenings) (k : KeptModel) : Type 0 wh
   pub within : IsTrue (covers k.first k.reached)
   pub points : (point : List Coordinate) → IsPointOf p s k.first point → MeetsForm p s point → IsPointOf p s k.reached point
   pub closed : IsTrue (closes k.end) → IsLemma p s k.reached
-  pub parts : IfSome k.end (λ (l : Line). CanPart l k.reached)
+  pub parts : IfSome k.end (λ (l : Line). CanBranch p s l k.reached)
 
 -- a run for the problem at these margins
 pub record IsRun (p : Problem) (m : Margins) (k : KeptModel) : Type 0 where

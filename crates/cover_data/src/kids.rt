@@ -4,7 +4,7 @@ ghost use Rattle.interval_model.specs.Space.{test_axis, strictly_inside, is_unde
 ghost use Rattle.dyadic.specs.Views.{dyadic_of};
 ghost use Rattle.cover_model.specs.State.{undecided, with_yes, with_no};
 ghost use Rattle.cover_line.specs.Views.{branching_of};
-ghost use Rattle.cover_model.specs.Rules.{can_branch, first_child, second_child, with_changed};
+ghost use Rattle.cover_model.specs.Rules.{are_undecided, can_part, first_child, second_child, with_all_yes, with_changed};
 ghost use Rattle.cover_data.specs.Runs.{CanPart, kids_of};
 ghost use Rattle.cover_data.specs.Views.{kept_of};
 
@@ -57,16 +57,47 @@ fn cases(alloc: Global, state: &State, j: u32) -> Result<(State, State), AllocEr
     Ok((yes, no))
 }
 
+// Marks these atoms yes.
+#[tactic(auto, using(crate::proofs::Groups::group_below, crate::proofs::Groups::yes_next, crate::proofs::Groups::yes_done))]
+fn mark_yes(state: &mut State, group: &[u32])
+    requires { IsTrue (are_undecided state.old group.now) }
+    ensures { state.new ≡ with_all_yes state.old group.now }
+{
+    for j in group {
+        state.set_mark(*j, Mark::Yes);
+    }
+}
+
+// The atoms of the first group marked yes, then those of the second.
+fn groups(
+    alloc: Global,
+    state: &State,
+    first: &[u32],
+    second: &[u32],
+) -> Result<(State, State), AllocError>
+    requires first { IsTrue (are_undecided state.now first.now) }
+    requires second { IsTrue (are_undecided state.now second.now) }
+    ensures first { IfOk result (λ p. p.0 ≡ with_all_yes state.now first.now) }
+    ensures second { IfOk result (λ p. p.1 ≡ with_all_yes state.now second.now) }
+{
+    let mut one = state.try_clone(alloc)?;
+    let mut other = state.try_clone(alloc)?;
+    mark_yes(&mut one, first);
+    mark_yes(&mut other, second);
+    Ok((one, other))
+}
+
 // The two states that a branch leaves.
-fn parts(alloc: Global, state: &State, branching: Branching) -> Result<(State, State), AllocError>
-    requires { IsTrue (can_branch state.now (branching_of branching)) }
-    ensures first { IfOk result (λ p. p.0 ≡ first_child state.now (branching_of branching)) }
-    ensures second { IfOk result (λ p. p.1 ≡ second_child state.now (branching_of branching)) }
+fn parts(alloc: Global, state: &State, branching: &Branching) -> Result<(State, State), AllocError>
+    requires { IsTrue (can_part state.now (branching_of branching.now)) }
+    ensures first { IfOk result (λ p. p.0 ≡ first_child state.now (branching_of branching.now)) }
+    ensures second { IfOk result (λ p. p.1 ≡ second_child state.now (branching_of branching.now)) }
 {
     match branching {
-        Branching::Cut(axis, at) => cut(alloc, state, axis, at),
-        Branching::Flip(axis) => flipped(alloc, state, axis),
-        Branching::Case(j) => cases(alloc, state, j),
+        Branching::Cut(axis, at) => cut(alloc, state, *axis, *at),
+        Branching::Flip(axis) => flipped(alloc, state, *axis),
+        Branching::Case(j) => cases(alloc, state, *j),
+        Branching::Either(first, second) => groups(alloc, state, first, second),
     }
 }
 
@@ -80,7 +111,7 @@ impl KeptPatch {
             IfSome o (λ p. kids_of (kept_of self.now) ≡ Some (p.0, p.1))) }
     {
         match &self.end {
-            Some(End::Part(branching)) => Ok(Some(parts(alloc, &self.reached, *branching)?)),
+            Some(End::Part(branching)) => Ok(Some(parts(alloc, &self.reached, branching)?)),
             Some(End::Close(_)) => Ok(None),
             Some(End::Stuck(_)) => Ok(None),
             None => Ok(None),

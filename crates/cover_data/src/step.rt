@@ -1,6 +1,7 @@
 // The lines of a patch by shape: its steps and its end.
 ghost use Rattle.std.specs.Prelude.{◌≡◌, IfOk};
 ghost use Rattle.cover_data.specs.Views.{closing_of, end_line, narrowing_of, step_line};
+ghost use Rattle.cover_line.specs.Views.{branching_of};
 
 use crate::combination::Combination;
 use crate::squares::Squares;
@@ -81,6 +82,21 @@ impl Closing {
     }
 }
 
+// The same branch in memory of its own.
+fn same_branching(alloc: Global, branching: &Branching) -> Result<Branching, AllocError>
+    ensures { IfOk result (λ b. branching_of b ≡ branching_of branching.now) }
+{
+    match branching {
+        Branching::Cut(axis, at) => Ok(Branching::Cut(*axis, *at)),
+        Branching::Flip(axis) => Ok(Branching::Flip(*axis)),
+        Branching::Case(j) => Ok(Branching::Case(*j)),
+        Branching::Either(first, second) => {
+            let first = Vec::from_slice(alloc, first)?;
+            Ok(Branching::Either(first, Vec::from_slice(alloc, second)?))
+        }
+    }
+}
+
 /// An end: it closes the state, parts it in two, or leaves it as a stuck one.
 #[derive(Drop, PartialEq, Eq, Debug)]
 pub enum End {
@@ -97,7 +113,7 @@ impl End {
     {
         match self {
             End::Close(closing) => Ok(End::Close(closing.try_clone(alloc)?)),
-            End::Part(branching) => Ok(End::Part(*branching)),
+            End::Part(branching) => Ok(End::Part(same_branching(alloc, branching)?)),
             End::Stuck(j) => Ok(End::Stuck(*j)),
         }
     }

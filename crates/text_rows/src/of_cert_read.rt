@@ -53,6 +53,7 @@ enum Said {
     Combine(&'static [(u32, &'static str)]),
     VoidCombine(&'static [(u32, &'static str)]),
     Squares(&'static [(u32, &'static str)], &'static [SaidBlock]),
+    Either(&'static [u32], &'static [u32]),
 }
 
 fn plain_of(line: &Line) -> Option<Plain> {
@@ -171,6 +172,9 @@ fn is_said(line: &Line, said: &Said) -> bool {
         (Line::Rule(Rule::End(Ending::Squares(pairs, blocks))), Said::Squares(wanted, said)) => {
             are_pairs(pairs, wanted) && are_blocks(blocks, said)
         }
+        (Line::Rule(Rule::Branch(Branching::Either(first, second))), Said::Either(ones, others)) => {
+            first.as_slice() == *ones && second.as_slice() == *others
+        }
         (line, Said::Plain(wanted)) => plain_of(line) == Some(*wanted),
         _ => false,
     }
@@ -224,6 +228,13 @@ const LINES: &[(&str, Said)] = &[
     ),
     ("voidcomb 0 -1b0", Said::VoidCombine(&[(0, "-1b0")])),
     ("voidcomb 2 0 2 0", Said::VoidCombine(&[(2, "0"), (2, "0")])),
+    ("either 0", Said::Either(&[], &[])),
+    ("either 0 4", Said::Either(&[], &[4])),
+    ("either 1 4", Said::Either(&[4], &[])),
+    ("either 1 4 5", Said::Either(&[4], &[5])),
+    ("either 2 0 1 2 3", Said::Either(&[0, 1], &[2, 3])),
+    ("either 1 2 2 0", Said::Either(&[2], &[2, 0])),
+    ("either 3 7 8 4294967295 9\n", Said::Either(&[7, 8, 4_294_967_295], &[9])),
     ("voidpos 0", Said::Squares(&[], &[])),
     ("voidpos 1 4 1b0", Said::Squares(&[(4, "1b0")], &[])),
     (
@@ -307,7 +318,7 @@ fn lines_are_written_back(rt: HostRuntime) {
     }
 }
 
-const FAULTS: [(&str, LineFault); 44] = [
+const FAULTS: [(&str, LineFault); 52] = [
     ("\n", LineFault::BadLine),
     ("shove 4", LineFault::BadLine),
     ("pull", LineFault::BadLine),
@@ -340,6 +351,14 @@ const FAULTS: [(&str, LineFault); 44] = [
     ("comb 3 2b0", LineFault::BadNumber),
     ("comb 03 1b0", LineFault::BadNumber),
     ("voidcomb 3 1b0 4 1b123", LineFault::BadNumber),
+    ("either", LineFault::BadLine),
+    ("either 2 4", LineFault::BadLine),
+    ("either 4294967295 4 5", LineFault::BadLine),
+    ("either 1  4", LineFault::BadLine),
+    ("either 4294967296 4", LineFault::BadNumber),
+    ("either 2 4 x", LineFault::BadNumber),
+    ("either 1 4 05", LineFault::BadNumber),
+    ("either 1 4 5 1b0", LineFault::BadNumber),
     ("voidpos", LineFault::BadLine),
     ("voidpos 2 4 1b0", LineFault::BadLine),
     ("voidpos 4294967295 4 1b0", LineFault::BadLine),

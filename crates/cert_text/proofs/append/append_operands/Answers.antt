@@ -33,6 +33,10 @@ returns-in-Multipliers c =
     subst (λ (o : Operands). OnOk c.append_pairs.result (HasOperands c.args.text.now.items (operands_in o) c.append_pairs.new.text.items)) (sym c.in-Multipliers.is)
     (on_ok_weaker c.append_pairs.result (λ h. multiplier_operands (multipliers_of c.in-Multipliers.pairs.now) _ _ h) c.append_pairs.ensures)
 
+pub returns-in-Groups : goal.returns-in-Groups
+returns-in-Groups c =
+    subst (λ (o : Operands). OnOk c.append_groups.result (HasOperands c.args.text.now.items (operands_in o) c.append_groups.new.text.items)) (sym c.in-Groups.is) c.append_groups.ensures
+
 pub returns-in-Squares : goal.returns-in-Squares
 returns-in-Squares c =
     subst (λ (o : Operands). OnOk c.append_squares.result (HasOperands c.args.text.now.items (operands_in o) c.append_squares.new.text.items)) (sym c.in-Squares.is) c.append_squares.ensures

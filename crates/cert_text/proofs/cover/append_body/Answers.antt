@@ -3,11 +3,15 @@ use Rattle.std.proofs.lemmas.Result.{on_ok_weaker}
 use Rattle.cover_book.specs.Model.{NodeModel}
 use Rattle.cover_book.specs.Views.{node_of}
 use Rattle.cert_text.specs.Parts.{HasAppendedCover}
+use Rattle.cert_text.proofs.GroupWords.{nodes_short}
 use Rattle.cert_text.proofs.Wholes.{crossing_counts, body_appended}
 use Rattle.cert_text.proofs.cover.append_body.Goals as goal
 
-pub append_cover-requires : goal.append_cover-requires
-append_cover-requires c = crossing_counts c.args.book.now c.nodes.ensures.book (map node_of c.nodes.result.now) c.nodes.ensures.nodes
+pub append_cover-requires-clause-short : goal.append_cover-requires-clause-short
+append_cover-requires-clause-short c = nodes_short c.args.book.now c.nodes.ensures.book (map node_of c.nodes.result.now) c.nodes.ensures.nodes
+
+pub append_cover-requires-clause-crossing : goal.append_cover-requires-clause-crossing
+append_cover-requires-clause-crossing c = crossing_counts c.args.book.now c.nodes.ensures.book (map node_of c.nodes.result.now) c.nodes.ensures.nodes
 
 pub returns : goal.returns
 returns c = on_ok_weaker c.append_plain-2.result

@@ -1,11 +1,11 @@
 use Rattle.std.proofs.Common.{List, length, ap}
 use Rattle.std.proofs.lemmas.Result.{on_ok_weaker}
 use Rattle.cover_model.specs.State.{State}
-use Rattle.cert_text.proofs.Wholes.{lemmas_of_appended, marks_few}
+use Rattle.cert_text.proofs.Wholes.{lemmas_of_appended, lemmas_short}
 use Rattle.cert_text.proofs.part.append_lemmas_of.Goals as goal
 
-pub append_lemmas-requires-clause-marks : goal.append_lemmas-requires-clause-marks
-append_lemmas-requires-clause-marks c = marks_few c.args.book.now c.lemmas.ensures.book c.lemmas.result.now c.lemmas.ensures.lemmas
+pub append_lemmas-requires-clause-short : goal.append_lemmas-requires-clause-short
+append_lemmas-requires-clause-short c = lemmas_short c.args.book.now c.lemmas.ensures.book c.lemmas.result.now c.lemmas.ensures.lemmas
 
 pub returns : goal.returns
 returns c = on_ok_weaker c.append_lemmas.result

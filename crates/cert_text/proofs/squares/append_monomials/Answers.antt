@@ -10,12 +10,12 @@ use Rattle.cert_text.proofs.squares.append_monomials.Goals as goal
 
 pub loop-axes-preserved : goal.loop-axes-preserved
 loop-axes-preserved c = record {
-  words = item_words axes_words c.args.monomials.now c.args.text.now.items c.loop-axes.text.items c.append_axes.new.text.items c.loop-axes.axes-index c.axes-item.result
+  words = item_words axes_words c.args.monomials.now c.args.text.now.items c.loop-axes.text.items c.append_each.new.text.items c.loop-axes.axes-index c.axes-item.result
       (omega (arith, c.loop-axes-test.true)) c.axes-item.is c.loop-axes.invariant.words
       (both_words _ _ _ _ _ (same_words _ _ _ _ (ap (λ (n : ℕ). decimal n ∷ []) (let many : c.len.result ≡ length c.axes-item.result.items = omega (arith, c.len.ensures, c.deref.ensures.len, ap length c.deref.ensures.value) in many)) c.in_ok-append_size.ensures)
-      (same_words _ _ _ _ (ap (λ (xs : List ℕ). map decimal xs) c.deref.ensures.value) c.in_ok-append_axes.ensures.words));
+      (same_words _ _ _ _ (ap (λ (xs : List ℕ). map decimal xs) c.deref.ensures.value) c.in_ok-append_each.ensures.words));
   counts = all_more (λ (v : Vec ℕ Global). AllByRecursion IsCount v.items) c.args.monomials.now c.loop-axes.axes-index c.axes-item.result
-      (omega (arith, c.loop-axes-test.true)) c.axes-item.is c.loop-axes.invariant.counts (subst (λ (xs : List ℕ). AllByRecursion IsCount xs) c.deref.ensures.value c.in_ok-append_axes.ensures.counts);
+      (omega (arith, c.loop-axes-test.true)) c.axes-item.is c.loop-axes.invariant.counts (subst (λ (xs : List ℕ). AllByRecursion IsCount xs) c.deref.ensures.value c.in_ok-append_each.ensures.counts);
 }
 
 pub returns-clause-words : goal.returns-clause-words

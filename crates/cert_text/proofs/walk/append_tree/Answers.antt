@@ -2,6 +2,7 @@ use Rattle.std.proofs.Common.{◌≡◌, ℕ, ◌+◌, List, [], ◌∷◌, ◌+
 use Rattle.std.proofs.lemmas.List.{length-map}
 use Rattle.cover_book.specs.Model.{NodeModel}
 use Rattle.cover_book.specs.Views.{node_of}
+use Rattle.cert_text.proofs.GroupWords.{short_there}
 use Rattle.cert_text.proofs.Appended.{Progress, first_waits, node_written, nothing_waits, all_written}
 use Rattle.cert_text.proofs.walk.append_tree.Goals as goal
 
@@ -14,6 +15,11 @@ loop-taken-init c = λ t ns xs w h.
 pub returns-in-None : goal.returns-in-None
 returns-in-None c = λ t ns xs w h.
     nothing_waits (map node_of c.args.nodes.now) c.args.text.now.items c.loop-taken.text.items c.loop-taken.waiting.items c.loop-taken._taken t (c.loop-taken.invariant t ns xs w h) c.in-None.ensures
+
+pub append_node-requires : goal.append_node-requires
+append_node-requires c =
+    let taken = c.in-Some.ensures in
+    short_there (map node_of c.args.nodes.now) taken.number (node_of c.in-Some.node.now) taken.there c.requires
 
 pub loop-taken-preserved : goal.loop-taken-preserved
 loop-taken-preserved c = λ t ns xs w h.

@@ -1,0 +1,1 @@
+use Rattle.cover_data.proofs.kids.mark_yes.Goals as goal
