@@ -14,17 +14,17 @@ use Rattle.poly_graph.specs.ProblemViews.{Parts, IsWhole}
 use Rattle.cover_model.specs.State.{State, IsLemma, undecided, with_yes, with_no, with_space, may, covers}
 use Rattle.poly_graph.specs.Marks.{marked_yes, marked_no}
 use Rattle.square_model.specs.Positive.{Multipliers}
-use Rattle.cover_model.specs.Rules.{Block, Line, narrow_by, end_by, Narrowing, void_by, void_squares, unit, ban, make_false, by, cut, flip, case, stuck, Left, closed, one, stays, when, pulled, voided, covers_by, is_stuck_atom, rule}
+use Rattle.cover_model.specs.Rules.{Block, Line, narrow_by, end_by, Narrowing, void_by, void_squares, unit, ban, make_false, by, cut, flip, case, either as parted, either_group, can_part, stuck, Left, closed, one, stays, when, pulled, voided, covers_by, is_stuck_atom, rule}
 use Rattle.cover_model.specs.Honest.{is_honest, is_small, is_some_space}
 use Rattle.cover_model.specs.Fits.{FitsAxis, FitsAxes}
 use Rattle.cover_data.specs.declared.margins.Margins.{Margins}
 use Rattle.cover_rule.specs.declared.refusal.PatchRefusal.{PatchRefusal}
-use Rattle.cover_rule.specs.declared.refusal.PatchRefusal.TheVariants.{NotYes, NotForced, NotCovered, NotFalse, NotInside, NotStuck, NotHonest, Ended, IsVoid, Decided, NotNo, NotCombinable, TooLong, Memory}
+use Rattle.cover_rule.specs.declared.refusal.PatchRefusal.TheVariants.{NotGroups, NotYes, NotForced, NotCovered, NotFalse, NotInside, NotStuck, NotHonest, Ended, IsVoid, Decided, NotNo, NotCombinable, TooLong, Memory}
 use Rattle.cover_data.specs.Models.{LemmaModel}
 use Rattle.cover_rule.specs.Models.{PatchModel}
-use Rattle.cover_data.specs.Runs.{is_closing, CanPart, IsEnding}
+use Rattle.cover_data.specs.Runs.{is_closing, CanBranch, IsEnding}
 use Rattle.cover_rule.specs.Patch.{problem_in, loosenings_in, now_in, IsRunOf, can_narrow_in, narrowed_in, narrowed_space, space_or}
-use Rattle.cover_rule.specs.Refusals.{IfLessStep, unless, then_by, if_ended, honestly, why_not, narrow_refusal, narrowed_by, unit_refusal, forced_by, ban_refusal, banned_by, void_refusal, VoidEnd, can_square_in, fits_line, is_positive_in, squaring_refusal, squares_refusal, SquaresEnd, false_refusal, by_refusal, ended_with, covered_by, flip_refusal, case_refusal, stuck_refusal, cut_line, cut_test, cut_refusal, ended_if, cut_by, PatchAnswer, EndAnswer, TestAnswer, AnswerIf, takes_memory}
+use Rattle.cover_rule.specs.Refusals.{IfLessStep, unless, then_by, if_ended, honestly, why_not, narrow_refusal, narrowed_by, unit_refusal, forced_by, ban_refusal, banned_by, void_refusal, VoidEnd, can_square_in, fits_line, is_positive_in, squaring_refusal, squares_refusal, SquaresEnd, false_refusal, by_refusal, ended_with, covered_by, flip_refusal, case_refusal, has_groups, one_holds_in, either_refusal, stuck_refusal, cut_line, cut_test, cut_refusal, ended_if, cut_by, PatchAnswer, EndAnswer, TestAnswer, AnswerIf, takes_memory}
 use Rattle.cover_rule.proofs.RunSteps.{run_steps, run_ends, kept_before, lemmas_and, alone, kept_alone, sound_alone, no_lemmas}
 use Rattle.cover_data.specs.declared.kept.KeptPatch.{KeptPatch}
 use Rattle.cover_rule.specs.declared.workspace.Workspace.{Workspace}
@@ -92,6 +92,7 @@ run_refused refusal P done Q IsVoid a h = subst IsRunOf (sym a.1) h
 run_refused refusal P done Q Decided a h = subst IsRunOf (sym a.1) h
 run_refused refusal P done Q NotNo a h = subst IsRunOf (sym a.1) h
 run_refused refusal P done Q NotCombinable a h = subst IsRunOf (sym a.1) h
+run_refused refusal P done Q NotGroups a h = subst IsRunOf (sym a.1) h
 run_refused refusal P done Q TooLong a h = subst IsRunOf (sym a.1) h
 run_refused refusal P done Q Memory a h = subst IsRunOf (sym a.1) h
 
@@ -114,6 +115,7 @@ run_tested first refusal P done Q (Err IsVoid) a h k = subst IsRunOf (sym a.1) h
 run_tested first refusal P done Q (Err Decided) a h k = subst IsRunOf (sym a.1) h
 run_tested first refusal P done Q (Err NotNo) a h k = subst IsRunOf (sym a.1) h
 run_tested first refusal P done Q (Err NotCombinable) a h k = subst IsRunOf (sym a.1) h
+run_tested first refusal P done Q (Err NotGroups) a h k = subst IsRunOf (sym a.1) h
 run_tested first refusal P done Q (Err TooLong) a h k = subst IsRunOf (sym a.1) h
 run_tested first refusal P done Q (Err Memory) a h k = subst IsRunOf (sym a.1) h
 
@@ -157,6 +159,7 @@ answers_lift f refusal old done new (Err IsVoid) a = (a.0, ap f a.1)
 answers_lift f refusal old done new (Err Decided) a = (a.0, ap f a.1)
 answers_lift f refusal old done new (Err NotNo) a = (a.0, ap f a.1)
 answers_lift f refusal old done new (Err NotCombinable) a = (a.0, ap f a.1)
+answers_lift f refusal old done new (Err NotGroups) a = (a.0, ap f a.1)
 answers_lift f refusal old done new (Err TooLong) a = (a.0, ap f a.1)
 answers_lift f refusal old done new (Err Memory) a = (a.0, ap f a.1)
 
@@ -214,7 +217,7 @@ module _ (P : PatchModel) (whole : IsWhole P.problem) (r : IsRunOf P) where
   voids false o h k = absurd (true≢false (sym h))
 
   -- an end that closes and quotes nothing
-  closes-plain : (l : Line) → P.kept.end ≡ None → ((lemmas : List State) → rule (problem_in P) (loosenings_in P) lemmas (now_in P) l ≡ Some closed) → IsTrue (is_honest (problem_in P) P.margins.least_bits (loosenings_in P) (now_in P) l) → CanPart l (now_in P) → IsRunOf (ended_with P l)
+  closes-plain : (l : Line) → P.kept.end ≡ None → ((lemmas : List State) → rule (problem_in P) (loosenings_in P) lemmas (now_in P) l ≡ Some closed) → IsTrue (is_honest (problem_in P) P.margins.least_bits (loosenings_in P) (now_in P) l) → CanBranch (problem_in P) (loosenings_in P) l (now_in P) → IsRunOf (ended_with P l)
   closes-plain l o t h c = run_ends (problem_in P) whole.problem P.margins P.kept r o l P.kept.quoted
       (λ lemmas q. (q, is-end (rule (problem_in P) (loosenings_in P) lemmas (now_in P) l) closed (t lemmas) tt)) h r.sound.quoted
       (λ x. ([], no_lemmas (problem_in P) (loosenings_in P), t [])) c
@@ -262,26 +265,35 @@ module _ (P : PatchModel) (whole : IsWhole P.problem) (r : IsRunOf P) where
   -- ---- other ends
 
   -- an end that does not close, and quotes nothing
-  ends-plain : (l : Line) → P.kept.end ≡ None → ((lemmas : List State) → IsEnding (rule (problem_in P) (loosenings_in P) lemmas (now_in P) l)) → IsTrue (is_honest (problem_in P) P.margins.least_bits (loosenings_in P) (now_in P) l) → is_closing l ≡ false → CanPart l (now_in P) → IsRunOf (ended_with P l)
+  ends-plain : (l : Line) → P.kept.end ≡ None → ((lemmas : List State) → IsEnding (rule (problem_in P) (loosenings_in P) lemmas (now_in P) l)) → IsTrue (is_honest (problem_in P) P.margins.least_bits (loosenings_in P) (now_in P) l) → is_closing l ≡ false → CanBranch (problem_in P) (loosenings_in P) l (now_in P) → IsRunOf (ended_with P l)
   ends-plain l o t h f c = run_ends (problem_in P) whole.problem P.margins P.kept r o l P.kept.quoted (λ lemmas q. (q, t lemmas)) h r.sound.quoted (λ x. absurd (true≢false (sym x ∙ f))) c
 
-  pub run_cut : (axis : ℕ) (c : Dyadic) → P.kept.end ≡ None → CanPart (cut axis c) (now_in P) → honestly P (cut axis c) ≡ None → IsRunOf (ended_with P (cut axis c))
+  pub run_cut : (axis : ℕ) (c : Dyadic) → P.kept.end ≡ None → CanBranch (problem_in P) (loosenings_in P) (cut axis c) (now_in P) → honestly P (cut axis c) ≡ None → IsRunOf (ended_with P (cut axis c))
   run_cut axis c o can h = ends-plain (cut axis c) o (λ lemmas. can_end (problem_in P) (loosenings_in P) lemmas (now_in P) (cut axis c) can _ refl)
       (passed (is_honest (problem_in P) P.margins.least_bits (loosenings_in P) (now_in P) (cut axis c)) NotHonest h) refl can
 
   pub run_flipped : (i : ℕ) → flip_refusal P i ≡ None → IsRunOf (ended_with P (flip i))
   run_flipped i e =
       let a = neither (if_ended P.kept) _ e in let b = neither _ _ a.1 in let d = neither (unless (test_axis is_undecided i (now_in P).space) NotInside) (honestly P (flip i)) b.1 in
-      let can = passed (test_axis is_undecided i (now_in P).space) NotInside d.0 in
+      let can = both_pass (test_axis is_undecided i (now_in P).space) true (passed (test_axis is_undecided i (now_in P).space) NotInside d.0) refl in
       ends-plain (flip i) (not_ended P a.0) (λ lemmas. can_end (problem_in P) (loosenings_in P) lemmas (now_in P) (flip i) can _ refl)
       (passed (is_honest (problem_in P) P.margins.least_bits (loosenings_in P) (now_in P) (flip i)) NotHonest d.1) refl can
 
   pub run_cased : (j : ℕ) → case_refusal P j ≡ None → IsRunOf (ended_with P (case j))
   run_cased j e =
       let a = neither (if_ended P.kept) _ e in let b = neither (unless (undecided (now_in P) j) Decided) (honestly P (case j)) a.1 in
-      let can = passed (undecided (now_in P) j) Decided b.0 in
+      let can = both_pass (undecided (now_in P) j) true (passed (undecided (now_in P) j) Decided b.0) refl in
       ends-plain (case j) (not_ended P a.0) (λ lemmas. can_end (problem_in P) (loosenings_in P) lemmas (now_in P) (case j) can _ refl)
       (passed (is_honest (problem_in P) P.margins.least_bits (loosenings_in P) (now_in P) (case j)) NotHonest b.1) refl can
+
+  pub run_parted : (js ks : List ℕ) → either_refusal P js ks ≡ None → IsRunOf (ended_with P (parted js ks))
+  run_parted js ks e =
+      let g = has_groups (loosenings_in P) js ks in let u = can_part (now_in P) (either_group js ks) in let v = one_holds_in P js ks in
+      let a = neither (if_ended P.kept) _ e in let b = neither (unless g NotGroups) _ a.1 in let d = neither (unless u Decided) _ b.1 in
+      let f = neither (unless v NotForced) (honestly P (parted js ks)) d.1 in
+      let can = both_pass u (g && v) (passed u Decided d.0) (both_pass g v (passed g NotGroups b.0) (passed v NotForced f.0)) in
+      ends-plain (parted js ks) (not_ended P a.0) (λ lemmas. can_end (problem_in P) (loosenings_in P) lemmas (now_in P) (parted js ks) can _ refl)
+      (passed (is_honest (problem_in P) P.margins.least_bits (loosenings_in P) (now_in P) (parted js ks)) NotHonest f.1) refl can
 
   pub run_stuck : (j : ℕ) → stuck_refusal P j ≡ None → IsRunOf (ended_with P (stuck j))
   run_stuck j e =
@@ -294,7 +306,7 @@ module _ (P : PatchModel) (whole : IsWhole P.problem) (r : IsRunOf P) where
   cut-by axis None e f = let a = neither (if_ended P.kept) (Some NotInside) f in let b = a.1 in cc
   cut-by axis (Some l) e f =
       let a = neither (if_ended P.kept) (honestly P l) f in let c = cut_is axis (now_in P).space l e in
-      subst (λ (x : Line). IsRunOf (ended_with P x)) (sym c.is) (run_cut axis c.at (not_ended P a.0) c.can (subst (λ (x : Line). honestly P x ≡ None) c.is a.1))
+      subst (λ (x : Line). IsRunOf (ended_with P x)) (sym c.is) (run_cut axis c.at (not_ended P a.0) (both_pass _ true c.can refl) (subst (λ (x : Line). honestly P x ≡ None) c.is a.1))
 
   pub run_cut_by : (axis : ℕ) → cut_refusal P axis ≡ None → IsRunOf (cut_by P axis)
   run_cut_by axis e = cut-by axis (cut_line axis (now_in P).space) refl e

@@ -1,6 +1,7 @@
 pub mod Axes
 mod Combinables
 pub mod Cuts
+pub mod Grouped
 pub mod Helds
 pub mod Knowns
 mod Narrowers

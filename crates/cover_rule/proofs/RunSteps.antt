@@ -13,7 +13,7 @@ use Rattle.cover_model.proofs.Proved.{rules_keep, rules_lie_within}
 use Rattle.cover_data.specs.declared.margins.Margins.{Margins}
 use Rattle.cover_data.specs.Margins.{loosenings_of}
 use Rattle.cover_data.specs.Models.{LemmaModel, KeptModel}
-use Rattle.cover_data.specs.Runs.{AreKept, is_closing, closes, CanPart, IsEnding, IsRun}
+use Rattle.cover_data.specs.Runs.{AreKept, is_closing, closes, CanBranch, IsEnding, IsRun}
 use Rattle.cover_rule.specs.Patch.{run_at, stepped, ended_by}
 use Rattle.cover_data.proofs.Runs.{leads_on, covers_itself, covers_through}
 
@@ -96,7 +96,7 @@ module _ (p : Problem) (g : IsProblem p) (m : Margins) (k : KeptModel) (r : IsRu
       within = covers_through k.first k.reached S r.sound.within (subst (LiesWithinIf k.reached) e (rules_lie_within p g (loosenings_of m) lemmas k.reached l));
       points = λ point i h. subst (λ (o : Option Left). KeepsIf p (loosenings_of m) o k.reached point) e (rules_keep p g (loosenings_of m) lemmas sound k.reached l point (r.sound.points point i h) h);
       closed = λ h. absurd (not-closing k.end open_ h);
-      parts = none-is (λ (x : Line). CanPart x S) k.end open_;
+      parts = none-is (λ (x : Line). CanBranch p (loosenings_of m) x S) k.end open_;
     };
   }
 
@@ -106,7 +106,7 @@ module _ (p : Problem) (g : IsProblem p) (m : Margins) (k : KeptModel) (r : IsRu
       IsTrue (is_honest p m.least_bits (loosenings_of m) k.reached l) →
       All (λ (L : LemmaModel). IsLemma p (loosenings_of m) L.state) quoted →
       (IsTrue (is_closing l) → (lemmas : List State) × AreLemmas p (loosenings_of m) lemmas × (rule p (loosenings_of m) lemmas k.reached l ≡ Some closed)) →
-      CanPart l k.reached →
+      CanBranch p (loosenings_of m) l k.reached →
       IsRun p m (ended_by k l quoted)
   run_ends l quoted f honest a closing can = record {
     lawful = record {

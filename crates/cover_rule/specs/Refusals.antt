@@ -8,10 +8,10 @@ use Rattle.square_model.specs.Positive.{Multipliers, all_numbers, is_positive, m
 use Rattle.cover_model.specs.Combination.{marked_range}
 use Rattle.poly_graph.specs.Problem.{Problem}
 use Rattle.cover_model.specs.State.{State, Loosenings, margin_of, undecided, with_yes, with_no, with_space, may, covers}
-use Rattle.cover_model.specs.Rules.{Block, Line, has_version_5, can_combine, narrow_by, end_by, Narrowing, by_range, by_off_range, by_combination, void_by, void_squares, unit, ban, make_false, by, cut, flip, case, stuck, is_stuck_atom}
+use Rattle.cover_model.specs.Rules.{Block, Line, has_version_5, are_groups, one_holds, can_part, either_group, either, can_combine, narrow_by, end_by, Narrowing, by_range, by_off_range, by_combination, void_by, void_squares, unit, ban, make_false, by, cut, flip, case, stuck, is_stuck_atom}
 use Rattle.cover_model.specs.Honest.{is_honest, may_be_cut, is_middle_at, is_small, is_some_space}
 use Rattle.cover_rule.specs.declared.refusal.PatchRefusal.{PatchRefusal}
-use Rattle.cover_rule.specs.declared.refusal.PatchRefusal.TheVariants.{NotYes, NotForced, NotCovered, NotFalse, NotInside, NotStuck, NotHonest, Ended, IsVoid, Decided, NotNo, NotCombinable, TooLong, Memory}
+use Rattle.cover_rule.specs.declared.refusal.PatchRefusal.TheVariants.{NotYes, NotForced, NotCovered, NotFalse, NotInside, NotStuck, NotHonest, Ended, IsVoid, Decided, NotNo, NotCombinable, NotGroups, TooLong, Memory}
 use Rattle.cover_data.specs.Models.{LemmaModel, KeptModel}
 use Rattle.cover_rule.specs.Models.{PatchModel}
 use Rattle.cover_rule.specs.Patch.{problem_in, loosenings_in, now_in, stepped, ended_by, with_kept, can_narrow_in, narrowed_in, narrowed_space}
@@ -169,6 +169,17 @@ flip_refusal P i = then_by (if_ended P.kept) (then_by (unless (not (test_axis is
 abbrev pub case_refusal : PatchModel → ℕ → Option PatchRefusal
 case_refusal P j = then_by (if_ended P.kept) (then_by (unless (undecided (now_in P) j) Decided) (honestly P (case j)))
 
+-- the version has branches by groups, and these are two
+abbrev pub has_groups : Loosenings → List ℕ → List ℕ → Bool
+has_groups s js ks = has_version_5 s && are_groups js ks
+
+abbrev pub one_holds_in : PatchModel → List ℕ → List ℕ → Bool
+one_holds_in P js ks = one_holds (problem_in P) (loosenings_in P) (now_in P) js ks
+
+abbrev pub either_refusal : PatchModel → List ℕ → List ℕ → Option PatchRefusal
+either_refusal P js ks = then_by (if_ended P.kept) (then_by (unless (has_groups (loosenings_in P) js ks) NotGroups)
+    (then_by (unless (can_part (now_in P) (either_group js ks)) Decided) (then_by (unless (one_holds_in P js ks) NotForced) (honestly P (either js ks)))))
+
 abbrev pub stuck_refusal : PatchModel → ℕ → Option PatchRefusal
 stuck_refusal P j = then_by (if_ended P.kept) (then_by (unless (is_stuck_atom (problem_in P) (loosenings_in P) (now_in P) j && is_small P.margins.least_bits (now_in P).space) NotStuck) (honestly P (stuck j)))
 
@@ -242,6 +253,9 @@ FlipEnd P i Q r = EndAnswer (flip_refusal P i) P (ended_with P (flip i)) Q r
 
 abbrev pub CaseEnd : PatchModel → ℕ → PatchModel → Result (Unit {0}) PatchRefusal → Type 0
 CaseEnd P j Q r = EndAnswer (case_refusal P j) P (ended_with P (case j)) Q r
+
+abbrev pub EitherEnd : PatchModel → List ℕ → List ℕ → PatchModel → Result (Unit {0}) PatchRefusal → Type 0
+EitherEnd P js ks Q r = EndAnswer (either_refusal P js ks) P (ended_with P (either js ks)) Q r
 
 abbrev pub StuckEnd : PatchModel → ℕ → PatchModel → Result (Unit {0}) PatchRefusal → Type 0
 StuckEnd P j Q r = EndAnswer (stuck_refusal P j) P (ended_with P (stuck j)) Q r

@@ -30,8 +30,8 @@ use form_truth::may_atom;
 use ival::{Domain, Range, Space, Truths};
 use poly_graph::Problem;
 
-// Whether nothing is left to do at the state but to part it.
-fn is_due(problem: &Problem, margins: &Margins, state: &State, work: &mut Workspace) -> bool
+/// Whether nothing is left to do at the state but to part it.
+pub fn is_due(problem: &Problem, margins: &Margins, state: &State, work: &mut Workspace) -> bool
     requires margins { AreMargins margins.now }
     requires numbered { IsNumbered problem.now }
     requires state { FitsProblem (problem_of problem.now) state.now }
@@ -113,8 +113,8 @@ pub fn flip(
     Ok(())
 }
 
-// Whether the enclosure of atom j, which is not marked, meets its range.
-fn meets_range(
+/// Whether the enclosure of atom j, which is not marked, meets its range.
+pub fn meets_range(
     problem: &Problem,
     margins: &Margins,
     state: &State,

@@ -9,6 +9,7 @@ mod branches;
 mod combining;
 mod ends;
 mod facts;
+mod groups;
 mod narrower;
 mod narrowing;
 mod patch;

@@ -1,5 +1,5 @@
 // Patches.
-ghost use Rattle.std.specs.Prelude.{◌≡◌, ◌<◌, ◌↔◌, length, IfOk, IsTrue, MatchResult};
+ghost use Rattle.std.specs.Prelude.{◌≡◌, ◌<◌, ◌↔◌, All, length, IfOk, IsTrue, MatchResult};
 ghost use Rattle.poly_graph.specs.ProblemViews.{problem_of};
 ghost use Rattle.cover_line.specs.Views.{blocks_of, multipliers_of};
 ghost use Rattle.cover_model.specs.Fits.{FitsProblem};
@@ -13,16 +13,17 @@ ghost use Rattle.cover_data.specs.Runs.{IsClosed};
 ghost use Rattle.cover_rule.specs.Serves.{IsFilled, IsNumbered, sure_at_middle};
 ghost use Rattle.cover_rule.specs.Patch.{problem_in, run_at, IsRunOf, IsLemmaState, IsClosedRunOf, IsNotClosed};
 ghost use Rattle.cover_rule.specs.Narrowers.{NamesAtom, narrowing_of};
-ghost use Rattle.cover_rule.specs.Refusals.{NarrowStep, NarrowIfLessStep, UnitStep, BanStep, VoidEnd, SquaresEnd, FalseEnd, LemmaEnd, CutEnd, FlipEnd, CaseEnd, StuckEnd};
+ghost use Rattle.cover_rule.specs.Refusals.{NarrowStep, NarrowIfLessStep, UnitStep, BanStep, VoidEnd, SquaresEnd, FalseEnd, LemmaEnd, CutEnd, FlipEnd, CaseEnd, EitherEnd, StuckEnd};
 ghost use Rattle.cover_data.specs.Views.{kept_of};
 
+use crate::groups::Groups;
 use crate::narrower::Narrower;
 use crate::narrowing::{copy_space, forget};
 use crate::refusal::PatchRefusal;
 use crate::squaring::Difference;
 use crate::truth::{find_centre, is_sure_at_middle};
 use crate::workspace::{Centre, Workspace};
-use crate::{branches, ends, squaring, steps};
+use crate::{branches, ends, groups, squaring, steps};
 use cover_data::{ClosedPatch, KeptPatch, Lemma, Margins, State};
 use cover_line::Block;
 use dyadic::Dy;
@@ -371,6 +372,22 @@ impl<'a> Patch<'a> {
             &mut self.kept,
             &mut self.work,
             j,
+        )
+    }
+
+    /// Ends the patch by parting the state by two groups of atoms, none of which is marked, where one of the two holds as a
+    /// whole: all of the first marked yes, then all of the second.
+    pub fn either(&mut self, first: Vec<u32>, second: Vec<u32>) -> Result<(), PatchRefusal>
+        requires first { All (λ j. j < length self.old.problem.atoms) first.items }
+        requires second { All (λ j. j < length self.old.problem.atoms) second.items }
+        ensures { EitherEnd self.old first.items second.items self.new result }
+    {
+        groups::either(
+            self.problem,
+            &self.margins,
+            &mut self.kept,
+            &mut self.work,
+            Groups { first, second },
         )
     }
 

@@ -6,7 +6,7 @@ use std::alloc::AllocError;
 pub enum PatchRefusal {
     /// The atom is not marked yes.
     NotYes,
-    /// The form may hold without the atom.
+    /// The form may hold without the atom, or without one of each group.
     NotForced,
     /// The lemma does not cover the state.
     NotCovered,
@@ -29,6 +29,9 @@ pub enum PatchRefusal {
     /// The atoms can't be combined: one is not marked, or an equation that is marked no; or they do not ascend, a
     /// multiplier is 0, or there are none or more than the version allows. Or the version has no ends by squares.
     NotCombinable,
+    /// They are no groups: one is empty or does not ascend, or an atom of each can be chosen in more than 64 ways. Or the
+    /// version has no branches by groups.
+    NotGroups,
     /// There are more than 8,000 numbers, as a line has at most.
     TooLong,
     /// Out of memory.
