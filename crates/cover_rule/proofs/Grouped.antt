@@ -52,6 +52,12 @@ undecided_next S js k h e = undecided-here S js k h ∙ ap (λ (t : Bool). t && 
 pub undecided_done : (S : State) (js : List ℕ) (k : ℕ) → length js ≤ k → are_undecided S (drop k js) ≡ true
 undecided_done S js k h = ap (are_undecided S) (drop_all k js h)
 
+-- an atom that there is not
+pub undecided_past : (marks : List Mark) (j : ℕ) → length marks ≤ j → undecided_in marks j ≡ false
+undecided_past [] j h = refl
+undecided_past (m ∷ marks) zero h = absurd (omega (arith, h))
+undecided_past (m ∷ marks) (suc j) h = undecided_past marks j (omega (arith, h))
+
 pub undecided_place : (S : State) (js : List ℕ) (k : ℕ) → are_undecided S js ≡ true → k < length js → undecided S (get_or js k 0) ≡ true
 undecided_place S [] k e h = absurd (omega (arith, h))
 undecided_place S (j ∷ js) zero e h = (both_true (undecided S j) (are_undecided S js) e).0

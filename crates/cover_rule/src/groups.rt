@@ -1,6 +1,6 @@
 // Two groups of atoms of which one holds as a whole. The checker has the same for itself (`cert_check`, groups): the two
 // share no code.
-ghost use Rattle.std.specs.Prelude.{◌≡◌, ◌<◌, ◌*◌, ◌&&◌, All, length, nat_le, nat_lt, true};
+ghost use Rattle.std.specs.Prelude.{◌≡◌, ◌*◌, ◌&&◌, nat_le, nat_lt, true};
 ghost use Rattle.poly_graph.specs.ProblemViews.{problem_of};
 ghost use Rattle.cover_model.specs.Fits.{FitsProblem};
 ghost use Rattle.cover_model.specs.Honest.{is_honest, none_misses};
@@ -66,14 +66,21 @@ fn has_groups(margins: &Margins, first: &[u32], second: &[u32]) -> bool
         && are_few(first.len(), second.len())
 }
 
-// Whether no atom of the group is marked.
+// Whether there is such an atom, and it is not marked.
+#[tactic(auto, using(crate::proofs::Grouped::undecided_past))]
+fn is_undecided(state: &State, j: u32) -> bool
+    ensures { result ≡ undecided state.now j }
+{
+    (j as usize) < state.lits().len() && state.is_undecided(j)
+}
+
+// Whether all atoms of the group are there, and none is marked.
 #[tactic(auto, using(crate::proofs::Grouped::undecided_fails, crate::proofs::Grouped::undecided_next, crate::proofs::Grouped::undecided_done))]
 fn are_undecided(state: &State, js: &[u32]) -> bool
-    requires { All (λ j. j < length state.now.marks) js.now }
     ensures { result ≡ are_undecided state.now js.now }
 {
     for j in js {
-        if !state.is_undecided(*j) {
+        if !is_undecided(state, *j) {
             return false;
         }
     }
@@ -175,7 +182,6 @@ fn none_misses(
     requires margins { AreMargins margins.now }
     requires state { FitsProblem (problem_of problem.now) state.now }
     requires group { are_undecided state.now js.now ≡ true }
-    requires atoms { All (λ j. j < length problem.now.atoms) js.now }
     requires work { HasRowsOf problem.now margins.now state.now.space work.now }
     ensures { result ≡ none_misses (problem_of problem.now) (loosenings_of margins.now)
         state.now js.now }
@@ -201,8 +207,6 @@ fn is_either_due(
     requires state { FitsProblem (problem_of problem.now) state.now }
     requires first { are_undecided state.now groups.now.first.items ≡ true }
     requires second { are_undecided state.now groups.now.second.items ≡ true }
-    requires atoms { All (λ j. j < length problem.now.atoms) groups.now.first.items }
-    requires others { All (λ j. j < length problem.now.atoms) groups.now.second.items }
     requires work { IsReady problem.now margins.now state.now.space work.old }
     ensures honest { let s = loosenings_of margins.now in
         let line = either groups.now.first.items groups.now.second.items in
@@ -223,8 +227,6 @@ fn refusal(
     groups: &Groups,
 ) -> Option<PatchRefusal>
     requires held { IsHeld problem.now margins.now kept.old work.old }
-    requires first { All (λ j. j < length problem.now.atoms) groups.now.first.items }
-    requires second { All (λ j. j < length problem.now.atoms) groups.now.second.items }
     ensures refusal { let P = patch_of problem.now margins.now kept.old in
         result ≡ either_refusal P groups.now.first.items groups.now.second.items }
     ensures kept { kept_of kept.new ≡ kept_of kept.old }
@@ -259,8 +261,6 @@ pub fn either(
     groups: Groups,
 ) -> Result<(), PatchRefusal>
     requires held { IsHeld problem.now margins.now kept.old work.old }
-    requires first { All (λ j. j < length problem.now.atoms) groups.first.items }
-    requires second { All (λ j. j < length problem.now.atoms) groups.second.items }
     ensures answer { let P = patch_of problem.now margins.now in
         let js = groups.first.items in let ks = groups.second.items in
         EitherEnd (P kept.old) js ks (P kept.new) result }

@@ -1,5 +1,5 @@
 // Patches.
-ghost use Rattle.std.specs.Prelude.{◌≡◌, ◌<◌, ◌↔◌, All, length, IfOk, IsTrue, MatchResult};
+ghost use Rattle.std.specs.Prelude.{◌≡◌, ◌<◌, ◌↔◌, length, IfOk, IsTrue, MatchResult};
 ghost use Rattle.poly_graph.specs.ProblemViews.{problem_of};
 ghost use Rattle.cover_line.specs.Views.{blocks_of, multipliers_of};
 ghost use Rattle.cover_model.specs.Fits.{FitsProblem};
@@ -378,8 +378,6 @@ impl<'a> Patch<'a> {
     /// Ends the patch by parting the state by two groups of atoms, none of which is marked, where one of the two holds as a
     /// whole: all of the first marked yes, then all of the second.
     pub fn either(&mut self, first: Vec<u32>, second: Vec<u32>) -> Result<(), PatchRefusal>
-        requires first { All (λ j. j < length self.old.problem.atoms) first.items }
-        requires second { All (λ j. j < length self.old.problem.atoms) second.items }
         ensures { EitherEnd self.old first.items second.items self.new result }
     {
         groups::either(
