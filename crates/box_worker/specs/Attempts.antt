@@ -11,8 +11,8 @@ use Rattle.cover_data.specs.Models.{LemmaModel}
 use Rattle.cover_rule.specs.Models.{PatchModel}
 use Rattle.cover_rule.specs.Patch.{problem_in, loosenings_in, now_in}
 use Rattle.cover_model.specs.Combination.{Multipliers}
-use Rattle.cover_model.specs.Rules.{Block, Narrowing, end_by, void_by, void_squares, make_false, flip, case, stuck}
-use Rattle.cover_rule.specs.Refusals.{unit_refusal, forced_by, void_refusal, squares_refusal, false_refusal, by_refusal, covered_by, cut_refusal, cut_by, flip_refusal, case_refusal, stuck_refusal, ended_with}
+use Rattle.cover_model.specs.Rules.{Block, Narrowing, end_by, void_by, void_squares, make_false, flip, case, either, stuck}
+use Rattle.cover_rule.specs.Refusals.{unit_refusal, forced_by, void_refusal, squares_refusal, false_refusal, by_refusal, covered_by, cut_refusal, cut_by, flip_refusal, case_refusal, either_refusal, stuck_refusal, ended_with}
 
 -- it was done, where nothing refuses it; else the patch is as it was
 abbrev pub Attempts : Option PatchRefusal → PatchModel → PatchModel → PatchModel → Bool → Type 0
@@ -53,6 +53,9 @@ FlipAttempt axis P Q = Attempts (flip_refusal P axis) P (ended_with P (flip axis
 
 abbrev pub CaseAttempt : ℕ → PatchModel → PatchModel → Bool → Type 0
 CaseAttempt j P Q = Attempts (case_refusal P j) P (ended_with P (case j)) Q
+
+abbrev pub EitherAttempt : List ℕ → List ℕ → PatchModel → PatchModel → Bool → Type 0
+EitherAttempt js ks P Q = Attempts (either_refusal P js ks) P (ended_with P (either js ks)) Q
 
 abbrev pub StuckAttempt : ℕ → PatchModel → PatchModel → Bool → Type 0
 StuckAttempt j P Q = Attempts (stuck_refusal P j) P (ended_with P (stuck j)) Q

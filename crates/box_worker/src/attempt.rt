@@ -9,7 +9,7 @@ ghost use Rattle.cover_rule.specs.Patch.{problem_in, loosenings_in};
 ghost use Rattle.cover_rule.specs.Models.{PatchModel};
 ghost use Rattle.cover_rule.specs.Narrowers.{NamesAtom, narrowing_of};
 ghost use Rattle.cover_rule.specs.Refusals.{EndAnswer, PatchAnswer, TestAnswer};
-ghost use Rattle.box_worker.specs.Attempts.{Attempts, UnitAttempt, VoidAttempt, SquaresAttempt, FalseAttempt, LemmaAttempt, CutAttempt, WidestAttempt, FlipAttempt, CaseAttempt, StuckAttempt};
+ghost use Rattle.box_worker.specs.Attempts.{Attempts, UnitAttempt, VoidAttempt, SquaresAttempt, FalseAttempt, LemmaAttempt, CutAttempt, WidestAttempt, FlipAttempt, CaseAttempt, EitherAttempt, StuckAttempt};
 
 use cover_line::Block;
 use cover_rule::{Lemma, Narrower, Patch, PatchRefusal};
@@ -139,6 +139,15 @@ pub fn case(patch: &mut Patch, j: u32) -> bool
     ensures { CaseAttempt j patch.old patch.new result }
 {
     let answer = patch.case(j);
+    was_ended(answer)
+}
+
+/// Ends the patch by parting the state by two groups of atoms, where one of the two holds as a whole and nothing else is left
+/// to do.
+pub fn either(patch: &mut Patch, first: Vec<u32>, second: Vec<u32>) -> bool
+    ensures { EitherAttempt first.items second.items patch.old patch.new result }
+{
+    let answer = patch.either(first, second);
     was_ended(answer)
 }
 

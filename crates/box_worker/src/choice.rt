@@ -14,14 +14,21 @@ pub enum Choice {
     Flip(u32),
 }
 
-// Whether there is such a Bool axis, and it is not decided.
-fn is_open_axis(state: &State, axis: u32) -> bool {
+/// What was chosen, and the node of the disjunction below which it stands; none where the form needs it anyway.
+#[derive(Clone, Copy)]
+pub struct Chosen {
+    pub choice: Choice,
+    pub disjunction: Option<u32>,
+}
+
+/// Whether there is such a Bool axis, and it is not decided.
+pub fn is_open_axis(state: &State, axis: u32) -> bool {
     let axis = axis as usize;
     axis < state.space().len() && matches!(state.space().get(axis), Domain::Bool(Truths::Either))
 }
 
-// Whether there is such an atom, and it is not marked.
-fn is_open_atom(state: &State, j: u32) -> bool {
+/// Whether there is such an atom, and it is not marked.
+pub fn is_open_atom(state: &State, j: u32) -> bool {
     (j as usize) < state.lits().len() && state.is_undecided(j)
 }
 
@@ -156,14 +163,47 @@ fn bests(
     Ok(bests)
 }
 
-// What to branch at below the needed disjunction of most worth, among those with the fewest children that may hold, of at
-// most so many.
+// What is best below the disjunction.
+fn best_at(bests: &[Option<Best>], disjunction: u32) -> Option<Chosen> {
+    let n = disjunction as usize;
+    if n >= bests.len() {
+        return None;
+    }
+    Some(Chosen {
+        choice: bests[n]?.choice,
+        disjunction: Some(disjunction),
+    })
+}
+
+// The worth of what is best below the node; none where there is no such node.
+fn worth_at(bests: &[Option<Best>], n: u32) -> Option<f64> {
+    let n = n as usize;
+    if n < bests.len() {
+        Some(bests[n]?.worth)
+    } else {
+        None
+    }
+}
+
+// Whether more is expected of the second node.
+fn is_worth_more(bests: &[Option<Best>], first: Option<u32>, second: u32) -> bool {
+    let Some(first) = first else {
+        return true;
+    };
+    match (worth_at(bests, first), worth_at(bests, second)) {
+        (Some(a), Some(b)) => b > a,
+        (None, _) => true,
+        (Some(_), None) => false,
+    }
+}
+
+// The needed disjunction of most worth, among those with the fewest children that may hold, of at most so many.
 fn best_of_narrowest(
     problem: &Problem,
     needs: &Needs,
     bests: &[Option<Best>],
     most: u32,
-) -> Option<Best> {
+) -> Option<u32> {
     let forms = problem.forms();
     let mut best = None;
     let mut fewest = most;
@@ -171,11 +211,10 @@ fn best_of_narrowest(
         if n < bests.len() && bests[n].is_some() && is_set(&needs.needed, n) {
             if let FormNode::Or(children) = forms.node(n as u32) {
                 let count = count_set(&needs.may, children);
-                if count < fewest {
-                    best = bests[n];
+                let is_better = count == fewest && is_worth_more(bests, best, n as u32);
+                if count < fewest || is_better {
+                    best = Some(n as u32);
                     fewest = count;
-                } else if count == fewest {
-                    best = better(best, bests[n]);
                 }
             }
         }
@@ -192,13 +231,16 @@ pub fn choose(
     worths: &[f64],
     state: &State,
     most: u32,
-) -> Result<Option<Choice>, AllocError> {
+) -> Result<Option<Chosen>, AllocError> {
     if let Some(axis) = needed_axis(problem, needs, state) {
-        return Ok(Some(Choice::Flip(axis)));
+        return Ok(Some(Chosen {
+            choice: Choice::Flip(axis),
+            disjunction: None,
+        }));
     }
     let bests = bests(alloc, problem, needs, worths, state)?;
-    match best_of_narrowest(problem, needs, &bests, most) {
-        Some(best) => Ok(Some(best.choice)),
-        None => Ok(None),
-    }
+    let Some(disjunction) = best_of_narrowest(problem, needs, &bests, most) else {
+        return Ok(None);
+    };
+    Ok(best_at(&bests, disjunction))
 }

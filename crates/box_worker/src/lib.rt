@@ -18,6 +18,7 @@ mod ended;
 mod facts;
 mod fallen;
 mod found;
+mod groups;
 mod guide;
 mod heuristics;
 mod learn;

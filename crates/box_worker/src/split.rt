@@ -3,7 +3,8 @@ ghost use Rattle.std.specs.Prelude.{◌≡◌, IfOk, IsTrue, true, false, None};
 ghost use Rattle.box_worker.specs.Attempts.{Continues};
 ghost use Rattle.box_worker.specs.Ended.{is_left};
 
-use crate::choice::{Choice, choose, is_open};
+use crate::choice::{Choice, Chosen, choose, is_open};
+use crate::groups::groups;
 use crate::heuristics::Heuristics;
 use crate::needs::Needs;
 use crate::worth::worths;
@@ -11,28 +12,53 @@ use crate::{attempt, axis};
 use cover_rule::Patch;
 use std::alloc::{AllocError, Global};
 
+// Branches by groups are there from this version of the format on.
+const GROUPS_FROM: u32 = 5;
+
+// Parts the state by what the two children of the disjunction ask for, where they do and nothing else is left to do.
+fn part_by_groups(
+    alloc: Global,
+    needs: &Needs,
+    disjunction: Option<u32>,
+    patch: &mut Patch,
+) -> Result<bool, AllocError>
+    ensures continues { IfOk result (λ b. Continues patch.old patch.new) }
+    ensures parted { IfOk result (λ b. b ≡ true → IsTrue (is_left patch.new.kept.end)) }
+    ensures same { IfOk result (λ b. b ≡ false → patch.new ≡ patch.old) }
+{
+    let Some(disjunction) = disjunction else {
+        return Ok(false);
+    };
+    if patch.margins().version < GROUPS_FROM {
+        return Ok(false);
+    }
+    match groups(alloc, patch.problem(), needs, patch.reached(), disjunction)? {
+        Some((first, second)) => Ok(attempt::either(patch, first, second)),
+        None => Ok(false),
+    }
+}
+
 // Parts the state at what was chosen, where nothing else is left to do.
-fn part_at(choice: Option<Choice>, patch: &mut Patch) -> bool
+fn part_at(choice: Choice, patch: &mut Patch) -> bool
     ensures continues { Continues patch.old patch.new }
     ensures parted { result ≡ true → IsTrue (is_left patch.new.kept.end) }
     ensures same { result ≡ false → patch.new ≡ patch.old }
 {
     match choice {
-        Some(Choice::Atom(j)) => {
+        Choice::Atom(j) => {
             if (j as usize) < patch.problem().atoms().len() {
                 attempt::case(patch, j)
             } else {
                 false
             }
         }
-        Some(Choice::Flip(axis)) => {
+        Choice::Flip(axis) => {
             if (axis as usize) < patch.problem().axes().len() {
                 attempt::flip(patch, axis)
             } else {
                 false
             }
         }
-        None => false,
     }
 }
 
@@ -48,7 +74,18 @@ fn part_by_form(
     ensures parted { IfOk result (λ b. b ≡ true → IsTrue (is_left patch.new.kept.end)) }
     ensures same { IfOk result (λ b. b ≡ false → patch.new ≡ patch.old) }
 {
-    let choice = choose(alloc, patch.problem(), needs, worths, patch.reached(), most)?;
+    let problem = patch.problem();
+    let Some(chosen) = choose(alloc, problem, needs, worths, patch.reached(), most)? else {
+        return Ok(false);
+    };
+    let Chosen {
+        choice,
+        disjunction,
+    } = chosen;
+    let is_atom = matches!(choice, Choice::Atom(_));
+    if is_atom && part_by_groups(alloc, needs, disjunction, patch)? {
+        return Ok(true);
+    }
     Ok(part_at(choice, patch))
 }
 
@@ -82,7 +119,7 @@ fn part_by_needs(
 
 /// Parts the state where nothing else is left to do: at a Bool axis that is needed at one value, or at an atom or
 /// axis of a needed disjunction with two children left; else by a cut; else at an atom or axis of any needed
-/// disjunction.
+/// disjunction. Where the two children are conjunctions of atoms, the state is parted by what each of them asks for.
 pub fn split(
     alloc: Global,
     heuristics: &mut Heuristics,
