@@ -17,6 +17,8 @@ mod of_cert_check;
 #[cfg(test)]
 mod of_combine;
 #[cfg(test)]
+mod of_groups;
+#[cfg(test)]
 mod patches;
 #[cfg(test)]
 mod points;

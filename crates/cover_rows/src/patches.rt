@@ -100,6 +100,8 @@ pub(crate) const NOT_NO: Answer = Err(PatchRefusal::NotNo);
 
 pub(crate) const NOT_COMBINABLE: Answer = Err(PatchRefusal::NotCombinable);
 
+pub(crate) const NOT_GROUPS: Answer = Err(PatchRefusal::NotGroups);
+
 pub(crate) const TOO_LONG: Answer = Err(PatchRefusal::TooLong);
 
 pub(crate) const IS_VOID: Answer = Err(PatchRefusal::IsVoid);
@@ -201,7 +203,7 @@ fn answer_by(book: &Book, lemma: &Lemma, patch: &mut Patch, line: &Line) -> Opti
     }
 }
 
-// What the patch answers to a line that has no squares. It chooses where on its axis a cut is made.
+// What the patch answers to a line that has no lists of its own. It chooses where on its axis a cut is made.
 fn answer_to(book: &Book, lemma: Option<&Lemma>, patch: &mut Patch, line: &Line) -> Option<Answer>
     requires problem { patch.old.problem ≡ book.now.problem }
     requires margins { patch.old.margins ≡ margins_of book.now.options }
@@ -236,6 +238,9 @@ fn answer(book: &Book, lemma: Option<&Lemma>, patch: &mut Patch, line: Line) -> 
     match line {
         Line::Rule(Rule::End(Ending::Squares(pairs, blocks))) => {
             Some(patch.squares(pairs, blocks))
+        }
+        Line::Rule(Rule::Branch(Branching::Either(first, second))) => {
+            Some(patch.either(first, second))
         }
         other => answer_to(book, lemma, patch, &other),
     }
