@@ -8,7 +8,7 @@ use Rattle.cover_model.specs.State.{State}
 use Rattle.cover_data.specs.declared.margins.Margins.{Margins}
 use Rattle.cover_data.specs.Margins.{loosenings_of}
 use Rattle.cover_rule.specs.declared.refusal.PatchRefusal.{PatchRefusal}
-use Rattle.cover_rule.specs.declared.refusal.PatchRefusal.TheVariants.{NotYes, NotForced, NotCovered, NotFalse, NotInside, NotStuck, NotHonest, Ended, IsVoid, Decided, NotNo, NotCombinable, TooLong, Memory}
+use Rattle.cover_rule.specs.declared.refusal.PatchRefusal.TheVariants.{NotYes, NotForced, NotCovered, NotFalse, NotInside, NotStuck, NotHonest, Ended, IsVoid, Decided, NotNo, NotCombinable, NotGroups, TooLong, Memory}
 use Rattle.cover_data.specs.Models.{LemmaModel}
 use Rattle.cover_rule.specs.Models.{PatchModel}
 use Rattle.cover_rule.specs.Refusals.{PatchAnswer, IfLessStep}
@@ -30,6 +30,7 @@ done-or-same refusal P done Q (Err IsVoid) a = inr a.1
 done-or-same refusal P done Q (Err Decided) a = inr a.1
 done-or-same refusal P done Q (Err NotNo) a = inr a.1
 done-or-same refusal P done Q (Err NotCombinable) a = inr a.1
+done-or-same refusal P done Q (Err NotGroups) a = inr a.1
 done-or-same refusal P done Q (Err TooLong) a = inr a.1
 done-or-same refusal P done Q (Err Memory) a = inr a.1
 

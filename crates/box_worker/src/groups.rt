@@ -70,7 +70,7 @@ fn group_at(
         return Ok(None);
     }
     let mut atoms = Vec::new(alloc);
-    for j in 0..group.atoms.len() {
+    for j in 0..problem.atoms().len() {
         if is_set(&group.atoms, j) {
             atoms.push(j as u32)?;
         }

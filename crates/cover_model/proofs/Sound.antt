@@ -182,10 +182,13 @@ module _ (p : Problem) (s : Loosenings) where
     -- where the form may not hold if any of them fails, each holds
     all-hold : (S : State) (point : List Coordinate) → IsPointOf p s S point → MeetsForm p s point → (ks : List ℕ) → IsTrue (none_may_fail p s S ks) → AllByRecursion (HoldsAt point) ks
     all-hold S point i h [] e = tt
-    all-hold S point i h (k ∷ ks) e = let d = both_true (not (may p s (with_no S k))) (none_may_fail p s S ks) e in (elim (decided (atom_holds (exact (margin_of s)) point (full_atom p k))) [
-      | inl a ↦ a
-      | inr a ↦ absurd (not_both (may p s (with_no S k)) (may_is p g s (with_no S k) point (with_no_point S point i k a) h) d.0)
-    ], all-hold S point i h ks d.1)
+    all-hold S point i h (k ∷ ks) e = let d = both_true (not (may p s (with_no S k))) (none_may_fail p s S ks) e in (
+      elim (decided (atom_holds (exact (margin_of s)) point (full_atom p k))) [
+        | inl a ↦ a
+        | inr a ↦ absurd (not_both (may p s (with_no S k)) (may_is p g s (with_no S k) point (with_no_point S point i k a) h) d.0)
+      ],
+      all-hold S point i h ks d.1,
+    )
 
     -- the atoms of one group hold
     one-group : (S : State) (point : List Coordinate) → IsPointOf p s S point → MeetsForm p s point → (js ks : List ℕ) → IsTrue (one_holds p s S js ks) →

@@ -18,27 +18,27 @@ pub set_mark-requires-3 : goal.set_mark-requires-3
 set_mark-requires-3 c =
     let k = undecided_below c.args.state.now.marks c.args.k c.requires.second in
     omega (
-  arith,
-  k,
-  ap (λ (S : State). length S.marks) c.set_mark.ensures,
-  length-set c.args.state.now.marks c.args.j marked_no,
-  ap (λ (S : State). length S.marks) c.set_mark-2.ensures,
-  length-set c.set_mark.new.self.marks c.args.k marked_no,
-)
+      arith,
+      k,
+      ap (λ (S : State). length S.marks) c.set_mark.ensures,
+      length-set c.args.state.now.marks c.args.j marked_no,
+      ap (λ (S : State). length S.marks) c.set_mark-2.ensures,
+      length-set c.set_mark.new.self.marks c.args.k marked_no,
+    )
 
 pub set_mark-requires-4 : goal.set_mark-requires-4
 set_mark-requires-4 c =
     let j = undecided_below c.args.state.now.marks c.args.j c.requires.first in
     omega (
-  arith,
-  j,
-  ap (λ (S : State). length S.marks) c.set_mark.ensures,
-  length-set c.args.state.now.marks c.args.j marked_no,
-  ap (λ (S : State). length S.marks) c.set_mark-2.ensures,
-  length-set c.set_mark.new.self.marks c.args.k marked_no,
-  ap (λ (S : State). length S.marks) c.set_mark-3.ensures,
-  length-set c.set_mark-2.new.self.marks c.args.k unmarked,
-)
+      arith,
+      j,
+      ap (λ (S : State). length S.marks) c.set_mark.ensures,
+      length-set c.args.state.now.marks c.args.j marked_no,
+      ap (λ (S : State). length S.marks) c.set_mark-2.ensures,
+      length-set c.set_mark.new.self.marks c.args.k marked_no,
+      ap (λ (S : State). length S.marks) c.set_mark-3.ensures,
+      length-set c.set_mark-2.new.self.marks c.args.k unmarked,
+    )
 
 pub returns-clause-state : goal.returns-clause-state
 returns-clause-state c =
