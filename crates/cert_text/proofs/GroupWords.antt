@@ -10,12 +10,12 @@ use Rattle.dyadic.proofs.Equal.{both_true}
 use Rattle.poly_graph.specs.Problem.{Problem}
 use Rattle.cover_line.specs.Words.{of_groups, branching_operands}
 use Rattle.cover_model.specs.State.{State, Loosenings}
-use Rattle.cover_model.specs.Rules.{Line, narrow_by, end_by, mark_by, branch_by, stay_by, Branching, cut_axis, flip_axis, case_atom, either_group, Left, closed, two, when, is_ascending, are_groups, has_version_5, one_holds, can_part, is_parted, can_branch, first_child, second_child, rule}
-use Rattle.cover_model.specs.Derivation.{Tree, leaf, Lawful, at_closed, at_left, at_step, at_fork}
+use Rattle.cover_model.specs.Rules.{Line, narrow_by, end_by, mark_by, branch_by, stay_by, Branching, cut_axis, flip_axis, case_atom, either_group, closed, two, when, is_ascending, are_groups, has_version_5, one_holds, can_part, is_parted, can_branch, first_child, second_child, rule}
+use Rattle.cover_model.specs.Derivation.{leaf, Lawful, at_closed, at_step}
 use Rattle.cover_data.specs.declared.margins.Margins.{Margins}
 use Rattle.cover_data.specs.Margins.{loosenings_of}
 use Rattle.cover_data.specs.Runs.{tree_after, CanBranch}
-use Rattle.cover_book.specs.Keeps.{HasRun, IsNodeOf, IsBook, IsCrossed, IsCovered}
+use Rattle.cover_book.specs.Keeps.{HasRun, IsNodeOf, IsBook, IsCovered}
 use Rattle.cover_book.specs.Model.{NodeModel, live_node, crossed_node, closed_node, parted_node, stuck_node, BookModel, problem_in, margins_of, lemma_states_in}
 use Rattle.cert_read.specs.LineText.{operand_words, IsCount}
 use Rattle.cert_text.specs.Parts.{HasShortEnd}

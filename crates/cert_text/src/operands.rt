@@ -6,7 +6,9 @@ ghost use Rattle.cover_data.specs.Views as kept;
 ghost use Rattle.cert_text.specs.Ruled.{HasFewPairs, operands_in};
 
 use cover_data::{Narrowing as Kept, Squares};
-use cover_line::{Block, Branching, Ending, Marking, Narrowing, NarrowingKind, Rule, Staying, Word};
+use cover_line::{
+    Block, Branching, Ending, Marking, Narrowing, NarrowingKind, Rule, Staying, Word,
+};
 use dyadic::Dy;
 
 /// What stands behind the first word of a tree's line. Numbers are those of atoms, lemmas and axes.

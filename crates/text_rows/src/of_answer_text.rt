@@ -282,6 +282,13 @@ const REFUSALS: &[(Told, &str)] = &[
         "certificate fault 3 RuleFails voidpos line 10\n",
     ),
     (
+        Told::Refused(CertFault::RuleFails {
+            rule: Word::Either,
+            line: 11,
+        }),
+        "certificate fault 3 RuleFails either line 11\n",
+    ),
+    (
         Told::Refused(CertFault::Missing { line: 15 }),
         "certificate fault 4 Missing line 15\n",
     ),

@@ -172,9 +172,8 @@ fn is_said(line: &Line, said: &Said) -> bool {
         (Line::Rule(Rule::End(Ending::Squares(pairs, blocks))), Said::Squares(wanted, said)) => {
             are_pairs(pairs, wanted) && are_blocks(blocks, said)
         }
-        (Line::Rule(Rule::Branch(Branching::Either(first, second))), Said::Either(ones, others)) => {
-            first.as_slice() == *ones && second.as_slice() == *others
-        }
+        (Line::Rule(Rule::Branch(Branching::Either(first, second))), Said::Either(ones, others)) =>
+            { first.as_slice() == *ones && second.as_slice() == *others }
         (line, Said::Plain(wanted)) => plain_of(line) == Some(*wanted),
         _ => false,
     }
@@ -234,7 +233,10 @@ const LINES: &[(&str, Said)] = &[
     ("either 1 4 5", Said::Either(&[4], &[5])),
     ("either 2 0 1 2 3", Said::Either(&[0, 1], &[2, 3])),
     ("either 1 2 2 0", Said::Either(&[2], &[2, 0])),
-    ("either 3 7 8 4294967295 9\n", Said::Either(&[7, 8, 4_294_967_295], &[9])),
+    (
+        "either 3 7 8 4294967295 9\n",
+        Said::Either(&[7, 8, 4_294_967_295], &[9]),
+    ),
     ("voidpos 0", Said::Squares(&[], &[])),
     ("voidpos 1 4 1b0", Said::Squares(&[(4, "1b0")], &[])),
     (
