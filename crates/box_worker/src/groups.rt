@@ -70,9 +70,12 @@ fn group_at(
         return Ok(None);
     }
     let mut atoms = Vec::new(alloc);
-    for j in 0..problem.atoms().len() {
+    for j in 0..group.atoms.len() {
         if is_set(&group.atoms, j) {
-            atoms.push(j as u32)?;
+            let Ok(atom) = u32::try_from(j) else {
+                return Ok(None);
+            };
+            atoms.push(atom)?;
         }
     }
     Ok(Some(atoms))
