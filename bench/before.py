@@ -12,9 +12,12 @@ from sets import Script, others, own
 KEYS = ['set', 'script']
 SPLITS = ['answer', 'splits', 'older answer', 'older splits']
 SQUARES_WORD = 'voidpos'  # the line that sums of squares close a box by
+CHOICES_WORD = 'either'  # the line that splits on a choice of two
 
 AXES = Results('axes', KEYS, [*SPLITS, 'load'])
 SQUARES = Results('squares', KEYS, [*SPLITS, SQUARES_WORD, 'load'])
+CHOICES = Results('choices', KEYS, [*SPLITS, CHOICES_WORD, 'load'])
+WORDS = (SQUARES_WORD, CHOICES_WORD)
 
 
 def lines_of(word: str, cert: str) -> str:
@@ -34,8 +37,9 @@ def measured(asked: Asked, results: Results, script: Script) -> Row:
         done = run(words, asked.seconds)
         row[before + 'answer'] = verdict(done)
         row[before + 'splits'] = '' if done.status is None else splits_of('dpoly', done, cert)
-        if SQUARES_WORD in results.columns and not before and row['splits']:
-            row[SQUARES_WORD] = lines_of(SQUARES_WORD, cert)
+        for word in WORDS:
+            if word in results.columns and not before and row['splits']:
+                row[word] = lines_of(word, cert)
     return row
 
 
@@ -57,3 +61,8 @@ def axes_part(asked: Asked) -> None:
 def squares_part(asked: Asked) -> None:
     """Splits of the program of `--older`, which has no sums of squares, and of this one."""
     compare(asked, SQUARES)
+
+
+def choices_part(asked: Asked) -> None:
+    """Splits of the program of `--older`, which has no splits on a choice of two, and of this one."""
+    compare(asked, CHOICES)

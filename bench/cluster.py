@@ -7,13 +7,15 @@ NAME is `scheduling:WORKS:PART` (jobs with these works, as 11,9,8, on one machin
 energy) or `trid:N:BELOW` (the function trid of N variables, so far below its least value). A table on standard output."""
 import itertools
 import os
-import re
 import subprocess
 import sys
 import tempfile
 import time
 
 TOP = os.path.dirname(os.path.dirname(os.path.abspath(__file__)))
+sys.path.insert(1, os.path.join(TOP, 'checker'))
+from dpoly_lines import SPLITS  # noqa: E402
+
 MOST = 1048576  # the greatest budget of one call
 
 
@@ -51,7 +53,7 @@ def timed(*words):
 
 def splits(cert):
     with open(cert) as file:
-        return sum(1 for line in file if re.match('cut |flip |case |either ', line))
+        return sum(line.startswith(SPLITS) for line in file)
 
 
 def by_cluster(program, checker, script, cert):

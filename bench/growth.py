@@ -6,7 +6,6 @@ of `solve` with one worker and default options, but for a budget that lets it en
 does not end.
 """
 import os
-import re
 import subprocess
 import sys
 import tempfile
@@ -15,6 +14,9 @@ from typing import Dict, Sequence
 import tables
 
 TOP = os.path.dirname(os.path.dirname(os.path.abspath(__file__)))
+sys.path.insert(1, os.path.join(TOP, 'checker'))
+from dpoly_lines import SPLITS  # noqa: E402
+
 BUDGET = 1048576
 # What the term of one variable is at its least, rounded down.
 LEAST = '78.3324'
@@ -53,7 +55,7 @@ def splits(program: str, script: str) -> str:
         done = subprocess.run([program, 'solve', '--budget', str(BUDGET), path, kept], check=True,
                               text=True, stdout=subprocess.PIPE, stderr=subprocess.DEVNULL)
         with open(kept, encoding='ascii') as file:
-            count = len(re.findall(r'^(?:cut|flip|case|either) ', file.read(), re.M))
+            count = sum(line.startswith(SPLITS) for line in file)
     return f'{count:,}' if done.stdout.startswith('unsat\n') else 'open'
 
 

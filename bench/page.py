@@ -9,7 +9,7 @@ from typing import Callable, Iterable, Optional
 
 import pictures
 import tables
-from before import AXES, SQUARES, SQUARES_WORD
+from before import AXES, CHOICES, CHOICES_WORD, SQUARES, SQUARES_WORD
 from goals import GOALS
 from made import MEMORY, READING
 from parts import CHECK, SETS, SOLVE, SOLVED
@@ -286,6 +286,23 @@ def squares() -> Table:
     return head, [*rows, *([name, '', '', '', shown(mean(it)), ''] for name, it in means)]
 
 
+def choices() -> Table:
+    """Splits of scripts without a point, without splits on a choice of two and with them: of each
+    script that has such splits, and of all."""
+    head = ['script', 'without', 'with', 'of them on a choice of two']
+    others, rows = [], []
+    for row in CHOICES:
+        if row['answer'] != 'unsat':
+            continue
+        if int(row[CHOICES_WORD]) > 0:
+            without, now, _ = splits_cells(row)
+            rows.append([row['script'], without, now, count(row[CHOICES_WORD])])
+        elif (times := times_splits(row)) is not None:
+            others.append(times)
+    rows.append([f'mean of {len(others)} others', '', shown(mean(others)) + ' times', ''])
+    return head, rows
+
+
 def times_splits(row: Row) -> Optional[float]:
     """How many times the splits of the older program this one takes, where both decide."""
     if row['answer'] != 'unsat' or row['older answer'] != 'unsat':
@@ -339,7 +356,8 @@ def runs() -> Table:
     """When and on what the files were measured; those alike are in one row."""
     head = ['files', 'date', 'program of commit', 'machine', 'load when timed, at most']
     rows: dict[tuple[str, ...], list[str]] = {}
-    measured = [SOLVE, CHECK, POWERS, AXES, SQUARES, WORKERS, SMALL, MODEL, MEMORY, GOALS, READING]
+    measured = [SOLVE, CHECK, POWERS, AXES, SQUARES, CHOICES]
+    measured += [WORKERS, SMALL, MODEL, MEMORY, GOALS, READING]
     for results in [*measured, *CARRIED]:
         if not results.rows:
             continue
@@ -358,6 +376,7 @@ TABLES: dict[str, Callable[[], Table]] = {
     'powers': powers,
     'axes': axes,
     'squares': squares,
+    'choices': choices,
     'workers': workers,
     'workers-small': workers_small,
     'workers-model': workers_model,

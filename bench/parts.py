@@ -15,10 +15,9 @@ from terms import has_power, in_squares, parse, spelled
 
 HERE = os.path.dirname(os.path.abspath(__file__))
 sys.path.insert(1, os.path.join(os.path.dirname(HERE), 'checker'))
-from dpoly_lines import RULES  # noqa: E402
+from dpoly_lines import SPLITS  # noqa: E402
 
 TWIN = os.path.join(HERE, 'twin', 'target', 'release', 'twin')
-BRANCHES = tuple(word + ' ' for word, rule in RULES.items() if rule.shape == 'parts')
 COUNTS = '-'  # the load of a row in which nothing is timed
 SOLVED = ('sat', 'unsat', 'delta-sat')
 MOST_SPLITS = '1048576'  # the greatest budget of one call
@@ -144,7 +143,7 @@ def splits_of(solver: str, done: Run, cert: str) -> str:
         return found[1] if found else ''
     if solver == 'dpoly' and verdict(done) != 'delta-sat' and os.path.exists(cert):
         with open(cert, encoding='ascii') as file:
-            return str(sum(it.startswith(BRANCHES) for it in file))
+            return str(sum(it.startswith(SPLITS) for it in file))
     return ''
 
 

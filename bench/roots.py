@@ -2,10 +2,13 @@
 """Scripts with square roots and quotients, and the same written by hand, with a constant and its equation for each: the answer and how many
 boxes are split. `bench/roots.py PROGRAM`."""
 import os
-import re
 import subprocess
 import sys
 import tempfile
+
+TOP = os.path.dirname(os.path.dirname(os.path.abspath(__file__)))
+sys.path.insert(1, os.path.join(TOP, 'checker'))
+from dpoly_lines import SPLITS  # noqa: E402
 
 
 def real(name, low, high):
@@ -68,7 +71,7 @@ def main(program):
                     file.write(text)
                 answer = subprocess.run([program, 'solve', script, cert], stdout=subprocess.PIPE, text=True).stdout.split('\n')[0]
                 with open(cert) as file:
-                    found.append((answer, len(re.findall('^(?:cut|flip|case|either) ', file.read(), re.M))))
+                    found.append((answer, sum(line.startswith(SPLITS) for line in file)))
             (answer, first), (other, second) = found
             print(f'| {name} | {answer if answer == other else f"{answer}, {other}"} | {first} | {second} |')
 

@@ -78,6 +78,10 @@ VERSIONS: Dict[int, Version] = {
 }
 
 
+# What the lines begin with that leave two states.
+SPLITS: Tuple[str, ...] = tuple(word + ' ' for word, rule in RULES.items() if rule.shape == 'parts')
+
+
 def rule_of(line: str) -> Rule:
     """The rule of a line of a tree, by its first word. ValueError where it is that of none."""
     word = line.split(' ', 1)[0]

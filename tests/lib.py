@@ -10,7 +10,7 @@ BENCH = os.path.join(TOP, 'bench', 'scripts')
 SECOND = os.path.join(TOP, 'checker', 'dpoly_checker.py')
 
 sys.path.insert(1, os.path.dirname(SECOND))
-from dpoly_lines import rule_of  # noqa: E402
+from dpoly_lines import SPLITS, rule_of  # noqa: E402
 
 # ---- scripts and certificates
 
